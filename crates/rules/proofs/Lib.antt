@@ -1,0 +1,22 @@
+-- Laws about the definitions that every crate above needs, and the definitions on given texts.
+
+-- what is read off the front of a text
+pub mod Text
+-- one computed test over all entries of a table, over all bytes or kinds
+pub mod Every
+-- runs of bytes by position, as a loop meets them
+pub mod Runs
+-- spans and their two words
+pub mod Spans
+-- UTF-8: the function by position, and the RFC's grammar
+pub mod Utf8
+pub mod Rfc3629
+-- one step stays inside the text
+pub mod Bounds
+-- RFC 8259's decimals
+pub mod Decimals
+-- the steps of a text as a loop meets them, and the lent arrays
+pub mod Trace
+-- the marked pairs and the worked texts
+pub mod Computes
+pub mod Marked

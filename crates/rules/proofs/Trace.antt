@@ -1,0 +1,229 @@
+-- The steps of a text as a loop meets them: one step more of the trace, and what is listed, counted and open after one more.
+use Prim.Native.Nat.{ℕ, zero, suc, pred, _+_, _-_, _*_, _≤_, _<_, max}
+use mathlib.Core.Path.{_≡_, refl, sym, ap, _∙_}
+use mathlib.Core.List.{List, [], _∷_, _++_, map, append-assoc, append-nil}
+use mathlib.Core.Bool.{Bool, true, false, cond, not, _&&_}
+use mathlib.Core.Option.{none, some}
+use native.Mathlib.Omega.{arith}
+use borrow.Author.Tests.{lt-ltb, le-ltb}
+use lib.Dec.{leb, ltb, eqb}
+use lib.ListN.{take, drop, length, set, getD, length-append, length-drop, length-map, length-set}
+use lib.Seq.{drop-drop, getD-set-same, getD-set-other}
+use Rattle.rules.specs.Text.{keep, join}
+use Rattle.rules.specs.Utf8.{firstBad}
+use Rattle.rules.specs.Refusals.{NotUtf8, TooLong, StackFull, ListFull}
+use Rattle.rules.specs.Spans.{span, low, high, limit, spanOf}
+use Rattle.rules.specs.Kinds.{isSpace, isOpener, isCloser}
+use Rattle.rules.specs.Step.{Step, found, stop, step}
+use Rattle.rules.specs.Lexing.{Piece, piece, End, ended, stopped, Trace, ends, after, openAfter, codesAfter, innermost, atEnd, traceFrom, trace, depthAfter, roomAfter, limited, lexemesOf, joined, deepestFrom, Lexeme, lexeme, placed, listedOf, openOf, wordsOf, kindsWith, wordsWith}
+use Rattle.rules.proofs.Text.{decide, keep-append}
+
+pub joined-append : (ps qs : List Piece) → joined (ps ++ qs) ≡ joined ps ++ joined qs
+joined-append [] qs = refl
+joined-append (p ∷ ps) qs = ap (λ (r : List ℕ). p .bytes ++ r) (joined-append ps qs) ∙ sym (append-assoc (p .bytes) (joined ps) (joined qs))
+
+-- The spans of steps one after the other
+pub placed-append : (doc at : ℕ) (ps qs : List Piece) → placed doc at (ps ++ qs) ≡ placed doc at ps ++ placed doc (at + length (joined ps)) qs
+placed-append doc at [] qs = ap (λ (n : ℕ). placed doc n qs) (omega arith)
+placed-append doc at (p ∷ ps) qs =
+    let next : ℕ = at + length (p .bytes) in
+    let same : next + length (joined ps) ≡ at + length (p .bytes ++ joined ps) = omega (arith, length-append (p .bytes) (joined ps)) in
+    let more : placed doc next (ps ++ qs) ≡ placed doc next ps ++ placed doc (next + length (joined ps)) qs = placed-append doc next ps qs in
+    ap (λ (r : List Lexeme). lexeme (p .kind) (span doc at next) ∷ r) (more ∙ ap (λ (n : ℕ). placed doc next ps ++ placed doc n qs) same)
+
+pub listed-kept : (doc at : ℕ) (ps : List Piece) → length (listedOf (placed doc at ps)) ≡ length (lexemesOf ps)
+listed-kept doc at [] = refl
+listed-kept doc at (p ∷ ps) =
+    let more : length (listedOf (placed doc (at + length (p .bytes)) ps)) ≡ length (lexemesOf ps) = listed-kept doc (at + length (p .bytes)) ps in
+    decide (isSpace (p .kind)) (λ e. rw e more) (λ e. rw e (ap suc more))
+
+pub open-append : (os ls ms : List Lexeme) → openOf os (ls ++ ms) ≡ openOf (openOf os ls) ms
+open-append os [] ms = refl
+open-append os (l ∷ ls) ms = open-append (openAfter (λ x. x .kind) os l) ls ms
+
+map-drop-one : (os : List Lexeme) → map (λ x. x .kind) (drop 1 os) ≡ drop 1 (map (λ x. x .kind) os)
+map-drop-one [] = refl
+map-drop-one (o ∷ os) = refl
+
+-- the codes of what is open
+pub open-codes : (os : List Lexeme) (l : Lexeme) → map (λ x. x .kind) (openAfter (λ x. x .kind) os l) ≡ codesAfter (map (λ x. x .kind) os) (l .kind)
+unfolding openAfter
+open-codes os l =
+    decide (isOpener (l .kind)) (λ e. rw e)
+    (λ e. rw e (decide (isCloser (l .kind)) (λ f. rw f (map-drop-one os)) (λ f. rw f)))
+
+length-drop-one : {A : Type 0} (os : List A) → length (drop 1 os) ≡ pred (length os)
+length-drop-one os = length-drop 1 os ∙ omega arith
+
+pub open-length : {A : Type 0} (kindOf : A → ℕ) (os : List A) (x : A) → length (openAfter kindOf os x) ≡ depthAfter (length os) (kindOf x)
+unfolding openAfter
+open-length kindOf os x =
+    decide (isOpener (kindOf x)) (λ e. rw e)
+    (λ e. rw e (decide (isCloser (kindOf x)) (λ f. rw f (length-drop-one os)) (λ f. rw f)))
+
+-- the deepest after one more step: what is open after the steps before it is as deep as the openers that are open
+pub deepest-snoc : (doc at : ℕ) (os : List Lexeme) (ps : List Piece) (p : Piece) →
+    deepestFrom (length os) (ps ++ (p ∷ [])) ≡ max (deepestFrom (length os) ps) (depthAfter (length (openOf os (placed doc at ps))) (p .kind))
+deepest-snoc doc at os [] p = refl
+deepest-snoc doc at os (q ∷ ps) p =
+    let next : ℕ = at + length (q .bytes) in
+    let l : Lexeme = lexeme (q .kind) (span doc at next) in
+    let opened : List Lexeme = openAfter (λ x. x .kind) os l in
+    let depth : length opened ≡ depthAfter (length os) (q .kind) = open-length (λ x. x .kind) os l in
+    omega (arith, rw depth at (deepest-snoc doc next opened ps p))
+
+-- The trace, one step at a time
+pub skip : (openers : List ℕ) (n : ℕ) (s : List ℕ) → traceFrom openers n s ≡ traceFrom openers 0 (drop n s)
+unfolding traceFrom
+skip openers zero s = refl
+skip openers (suc n) [] = refl
+skip openers (suc n) (b ∷ s) = skip openers n s
+
+pub trace-found : (openers s : List ℕ) (k n : ℕ) → 0 < length s → 0 < n → step (innermost openers) s ≡ found k n →
+    traceFrom openers 0 s ≡ after (piece k (take n s)) (traceFrom (codesAfter openers k) 0 (drop n s))
+unfolding traceFrom
+trace-found openers [] k n some-left moves e = absurd (omega arith)
+trace-found openers (b ∷ s) k zero some-left moves e = absurd (omega arith)
+trace-found openers (b ∷ s) k (suc n) some-left moves e = rw e (ap (λ (t : Trace). after (piece k (b ∷ take n s)) t) (skip (codesAfter openers k) n s))
+
+pub trace-stopped : (openers s : List ℕ) (number from n : ℕ) → 0 < length s → step (innermost openers) s ≡ stop number from n → traceFrom openers 0 s ≡ ends (stopped number from n)
+unfolding traceFrom
+trace-stopped openers [] number from n some-left e = absurd (omega arith)
+trace-stopped openers (b ∷ s) number from n some-left e = rw e
+
+pub trace-ended : (openers s : List ℕ) → length s ≡ 0 → traceFrom openers 0 s ≡ ends (atEnd openers)
+unfolding traceFrom
+trace-ended openers [] e = refl
+trace-ended openers (b ∷ s) e = absurd (omega arith)
+
+-- the checks before the first step
+pub trace-long : (text : List ℕ) → limit < length text → trace text ≡ ends (stopped TooLong 0 0)
+unfolding trace
+trace-long text h = rw (lt-ltb limit (length text) h)
+
+pub trace-bad : (text : List ℕ) (i : ℕ) → length text ≤ limit → firstBad text ≡ some i → trace text ≡ ends (stopped NotUtf8 i 0)
+unfolding trace
+trace-bad text i h e = rw (le-ltb limit (length text) h, e)
+
+pub trace-good : (text : List ℕ) → length text ≤ limit → firstBad text ≡ none → trace text ≡ traceFrom [] 0 text
+unfolding trace
+trace-good text h e = rw (le-ltb limit (length text) h, e)
+
+-- In lent memory, with t a trace
+abbrev pub within : (stack depth room : ℕ) → Trace → Trace
+within stack depth room t = limited stack depth room (t .pieces) (t .end)
+
+pub within-ends : (stack depth room : ℕ) (e : End) → within stack depth room (ends e) ≡ ends e
+unfolding limited
+within-ends stack depth room e = refl
+
+-- a lexeme for which there is room
+pub within-after : (stack depth room : ℕ) (p : Piece) (t : Trace) → isOpener (p .kind) && leb stack depth ≡ false → not (isSpace (p .kind)) && eqb room 0 ≡ false →
+    within stack depth room (after p t) ≡ after p (within stack (depthAfter depth (p .kind)) (roomAfter room (p .kind)) t)
+unfolding limited
+within-after stack depth room p t a b = rw (a, b)
+
+-- a full stack, then a full list
+pub within-full-stack : (stack depth room : ℕ) (p : Piece) (t : Trace) → isOpener (p .kind) && leb stack depth ≡ true →
+    within stack depth room (after p t) ≡ ends (stopped StackFull 0 (length (p .bytes)))
+unfolding limited
+within-full-stack stack depth room p t a = rw a
+
+pub within-full-list : (stack depth room : ℕ) (p : Piece) (t : Trace) → isOpener (p .kind) && leb stack depth ≡ false → not (isSpace (p .kind)) && eqb room 0 ≡ true →
+    within stack depth room (after p t) ≡ ends (stopped ListFull 0 (length (p .bytes)))
+unfolding limited
+within-full-list stack depth room p t a b = rw (a, b)
+
+-- Steps that are behind, and a trace that is ahead
+abbrev pub behind : List Piece → Trace → Trace
+behind ps t = record { pieces = ps ++ t .pieces; end = t .end }
+
+pub behind-after : (ps : List Piece) (p : Piece) (t : Trace) → behind ps (after p t) ≡ behind (ps ++ (p ∷ [])) t
+behind-after ps p t = rw (append-assoc ps (p ∷ []) (t .pieces))
+
+pub behind-ends : (ps : List Piece) (e : End) → behind ps (ends e) ≡ record { pieces = ps; end = e }
+behind-ends ps e = rw (append-nil ps)
+
+-- The lent arrays with one lexeme more
+pub kinds-snoc : (ls : List Lexeme) (l : Lexeme) (ks : List ℕ) → length ls < length ks → kindsWith (ls ++ (l ∷ [])) ks ≡ set (kindsWith ls ks) (length ls) (l .kind)
+kinds-snoc [] l [] room = absurd (omega arith)
+kinds-snoc [] l (k ∷ ks) room = refl
+kinds-snoc (m ∷ ls) l [] room = absurd (omega arith)
+kinds-snoc (m ∷ ls) l (k ∷ ks) room = ap (λ (r : List ℕ). m .kind ∷ r) (kinds-snoc ls l ks (omega arith))
+
+-- two words for each lexeme
+suc-double : (n : ℕ) → suc n * 2 ≡ suc (suc (n * 2))
+suc-double n = omega arith
+
+suc-double-one : (n : ℕ) → suc n * 2 + 1 ≡ suc (suc (n * 2 + 1))
+suc-double-one n = omega arith
+
+pub words-snoc : (ls : List Lexeme) (l : Lexeme) (ws : List ℕ) → length ls * 2 + 1 < length ws →
+    wordsWith (ls ++ (l ∷ [])) ws ≡ set (set (wordsWith ls ws) (length ls * 2) (low (l .at))) (length ls * 2 + 1) (high (l .at))
+words-snoc [] l [] room = absurd (omega arith)
+words-snoc [] l (a ∷ []) room = absurd (omega arith)
+words-snoc [] l (a ∷ (b ∷ ws)) room = refl
+words-snoc (m ∷ ls) l [] room = absurd (omega arith)
+words-snoc (m ∷ ls) l (a ∷ []) room = absurd (omega arith)
+words-snoc (m ∷ ls) l (a ∷ (b ∷ ws)) room =
+    rw (suc-double-one (length ls), suc-double (length ls), suc-double (length (ls ++ (l ∷ []))))
+    (ap (λ (r : List ℕ). low (m .at) ∷ high (m .at) ∷ r) (words-snoc ls l ws (omega arith)))
+
+pub kinds-length : (ls : List Lexeme) (ks : List ℕ) → length ls ≤ length ks → length (kindsWith ls ks) ≡ length ks
+kinds-length ls ks room = simp (length-append, length-map, length-drop) (omega arith)
+
+length-words : (ls : List Lexeme) → length (wordsOf ls) ≡ length ls * 2
+length-words [] = refl
+length-words (l ∷ ls) = omega (arith, length-words ls)
+
+pub words-length : (ls : List Lexeme) (ws : List ℕ) → length ls * 2 ≤ length ws → length (wordsWith ls ws) ≡ length ws
+words-length ls ws room = simp (length-append, length-words, length-drop) (omega arith)
+
+-- The stack in lent arrays
+-- the openers, innermost first, as the stack's arrays have them: the innermost stands at the place below the depth
+abbrev pub OnStack : List Lexeme → (kinds words : List ℕ) → Type 0
+OnStack [] ks ws = Unit {0}
+OnStack (o ∷ os) ks ws = (getD ks (length os) 0 ≡ o .kind) × (spanOf (getD ws (length os * 2) 0) (getD ws (length os * 2 + 1) 0) ≡ o .at) × OnStack os ks ws
+
+-- the two words of a place, where another place's words are written
+other-words : (ws : List ℕ) (i n l h : ℕ) → i < n →
+    spanOf (getD (set (set ws (n * 2) l) (n * 2 + 1) h) (i * 2) 0) (getD (set (set ws (n * 2) l) (n * 2 + 1) h) (i * 2 + 1) 0) ≡ spanOf (getD ws (i * 2) 0) (getD ws (i * 2 + 1) 0)
+other-words ws i n l h lt =
+    let below : (j : ℕ) → j < n * 2 → getD (set (set ws (n * 2) l) (n * 2 + 1) h) j 0 ≡ getD ws j 0 =
+    λ j lt₂. getD-set-other (set ws (n * 2) l) (n * 2 + 1) j h 0 (omega arith) ∙ getD-set-other ws (n * 2) j l 0 (omega arith) in
+    rw (below (i * 2) (omega arith), below (i * 2 + 1) (omega arith))
+
+-- writing at the depth or above keeps what is on the stack
+pub stack-keep : (os : List Lexeme) (ks ws : List ℕ) (n k l h : ℕ) → OnStack os ks ws → length os ≤ n → OnStack os (set ks n k) (set (set ws (n * 2) l) (n * 2 + 1) h)
+stack-keep [] ks ws n k l h on above = tt
+stack-keep (o ∷ os) ks ws n k l h on above =
+    (getD-set-other ks n (length os) k 0 (omega arith) ∙ on .0, other-words ws (length os) n l h (omega arith) ∙ on .1, stack-keep os ks ws n k l h (on .2) (omega arith))
+
+-- an opener written at the depth is the innermost
+pub stack-push : (os : List Lexeme) (o : Lexeme) (ks ws : List ℕ) (l h : ℕ) → OnStack os ks ws → length os < length ks → length os * 2 + 1 < length ws → spanOf l h ≡ o .at →
+    OnStack (o ∷ os) (set ks (length os) (o .kind)) (set (set ws (length os * 2) l) (length os * 2 + 1) h)
+stack-push os o ks ws l h on kinds words e =
+    let n : ℕ = length os in
+    let ws₁ : List ℕ = set ws (n * 2) l in
+    let first : getD (set ws₁ (n * 2 + 1) h) (n * 2) 0 ≡ l = getD-set-other ws₁ (n * 2 + 1) (n * 2) h 0 (omega arith) ∙ getD-set-same ws (n * 2) l 0 (omega arith) in
+    let second : getD (set ws₁ (n * 2 + 1) h) (n * 2 + 1) 0 ≡ h = getD-set-same ws₁ (n * 2 + 1) h 0 (omega (arith, length-set ws (n * 2) l)) in
+    (getD-set-same ks n (o .kind) 0 (omega arith), rw (first, second) e, stack-keep os ks ws n (o .kind) l h on (omega arith))
+
+-- a closer takes the innermost, and writes nothing
+pub stack-pop : (os : List Lexeme) (ks ws : List ℕ) → OnStack os ks ws → OnStack (drop 1 os) ks ws
+stack-pop [] ks ws on = tt
+stack-pop (o ∷ os) ks ws on = on .2
+
+-- the innermost opener's code, read off the array
+pub stack-top-kind : (os : List Lexeme) (ks ws : List ℕ) → OnStack os ks ws → 0 < length os → innermost (map (λ x. x .kind) os) ≡ getD ks (length os - 1) 0
+stack-top-kind [] ks ws on some-open = absurd (omega arith)
+stack-top-kind (o ∷ os) ks ws on some-open =
+    let n : suc (length os) - 1 ≡ length os = omega arith in
+    rw n (sym (on .0))
+
+-- Past the deepest nothing is written: a write below a place keeps what stands from there on (`drop-set-lt` of lib.Seq), and what is the same from a place on is so from any later one
+pub untouched-more : {A : Type 0} (d e : ℕ) (xs ys : List A) → d ≤ e → drop d xs ≡ drop d ys → drop e xs ≡ drop e ys
+untouched-more {A} d e xs ys le same =
+    let there : d + (e - d) ≡ e = omega arith in
+    let further : drop (d + (e - d)) xs ≡ drop (d + (e - d)) ys = sym (drop-drop (e - d) d xs) ∙ ap (λ (r : List A). drop (e - d) r) same ∙ drop-drop (e - d) d ys in
+    rw there at further

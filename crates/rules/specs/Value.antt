@@ -1,0 +1,122 @@
+-- "Value": String and Escape parts in order; and handing it back.
+use Prim.Native.Nat.{ℕ, _+_, _-_, min}
+use mathlib.Core.List.{List, [], _∷_, _++_}
+use mathlib.Core.Bool.{Bool, false, cond, _&&_}
+use lib.Dec.{eqb}
+use lib.ListN.{take, drop, length}
+use Rattle.rules.specs.Text.{begins}
+use Rattle.rules.specs.Spans.{span, bytesAt, Answer, given, refused, Verdict, accepted, resolved}
+use Rattle.rules.specs.Kinds.{HoleOpen, Nothing, isTriple, isEscape}
+use Rattle.rules.specs.Lexing.{Lexeme, placesOf, kindsWith, wordsWith}
+use Rattle.rules.specs.Output.{endOf, Chunk, chunk, Written, written, overwritten}
+use Rattle.rules.specs.Escapes.{escapeScalar, escapeBytes, verdictOn}
+use Rattle.rules.specs.Parts.{Parts, partsIn, lexemesFrom}
+use Rattle.rules.specs.Indent.{andThen, firstRefusal, partVerdict, isStringPart, spacesAfter, indentOf}
+
+-- "the indent is taken off after each leading LF, as far as spaces go"
+unfoldable pub dedented : (indent : ℕ) → List ℕ → List ℕ
+dedented indent w = cond (begins "\n" w) (take 1 w ++ drop (min indent (spacesAfter w)) (drop 1 w)) w
+
+-- the bytes of a String or Escape part
+unfoldable pub partBytes : List ℕ → (indent : ℕ) → Lexeme → List ℕ
+partBytes text indent p =
+    cond (isStringPart p) (dedented indent (bytesAt text (p .at))) (escapeBytes (escapeScalar text (p .at) (p .kind)))
+
+-- "Holes give no byte."
+abbrev pub valueChunks : List ℕ → (indent : ℕ) → List Lexeme → List Chunk
+valueChunks text indent [] = []
+valueChunks text indent (p ∷ ps) =
+    let more = valueChunks text indent ps in
+    cond (eqb (p .kind) HoleOpen) more (chunk (partBytes text indent p) (p .at) ∷ more)
+
+-- "\"Unbroken\" means nothing taken off and no second part, a hole included"
+abbrev pub isUnbroken : List ℕ → (indent : ℕ) → List Lexeme → Bool
+isUnbroken text indent [] = false
+isUnbroken text indent (p ∷ []) = isStringPart p && eqb (length (partBytes text indent p)) (length (bytesAt text (p .at)))
+isUnbroken text indent (p ∷ (q ∷ ps)) = false
+
+-- "handed back as that part of the text ..; any other as the written part of the output"
+pub data Where : Type 0 where
+  inText : (start end : ℕ) → Where
+  inOutput : (start end : ℕ) → Where
+
+abbrev pub textPart : List Lexeme → Where
+textPart [] = inText 0 0
+textPart (p ∷ ps) = inText (p .at .start) (p .at .end)
+
+abbrev pub outputPart : (at length : ℕ) → Verdict → Answer Where
+outputPart at n (given u) = given (inOutput at (at + n))
+outputPart at n (refused r) = refused r
+
+pub record Valued : Type 0 where
+  pub answer : Answer Where
+  pub output : List ℕ
+
+abbrev pub unlessRefused : Verdict → (out : List ℕ) → Valued → Valued
+unlessRefused (given u) out v = v
+unlessRefused (refused r) out v = record { answer = refused r; output = out }
+
+-- the refusal of an Escape part
+abbrev pub escapeVerdict : List ℕ → Lexeme → Verdict
+escapeVerdict text p = cond (isEscape (p .kind)) (verdictOn (escapeScalar text (p .at) (p .kind))) accepted
+
+-- of parts that nothing is to be said against: "output and position are then not read and 46 is not given"
+unfoldable pub valueWritten : List ℕ → (indent : ℕ) → List Lexeme → (out : List ℕ) (at : ℕ) → Valued
+valueWritten text indent ps out at =
+    let w = written (endOf out) at (valueChunks text indent ps) in
+    cond (isUnbroken text indent ps)
+    (record { answer = given (textPart ps); output = out })
+    (record { answer = outputPart at (length (w .bytes)) (w .verdict); output = overwritten out at (w .bytes) })
+
+abbrev pub kindOfFirst : List Lexeme → ℕ
+kindOfFirst [] = Nothing
+kindOfFirst (l ∷ ls) = l .kind
+
+-- "in triple quotes"
+abbrev pub indentTaken : List ℕ → (quote : ℕ) → List Lexeme → ℕ
+indentTaken text quote ps = cond (isTriple quote) (indentOf text ps) 0
+
+-- of the lexemes from an opener on, with the parts that were found: "Refusals as of parts, indent, escapes, each over the whole string before a byte is written, then 46"
+unfoldable pub valueOf : List ℕ → List Lexeme → Parts → (out : List ℕ) (at : ℕ) → Valued
+valueOf text ls p out at =
+    unlessRefused
+    (andThen (verdictOn (p .answer)) (andThen (firstRefusal (partVerdict text) (p .found)) (firstRefusal (escapeVerdict text) (p .found))))
+    out
+    (valueWritten text (indentTaken text (kindOfFirst ls) (p .found)) (p .found) out at)
+
+-- the call: where the value is or the refusal, how many parts there are, and the arrays after it
+pub record ValueCall : Type 0 where
+  pub answer : Answer Where
+  pub parts : ℕ
+  pub kinds : List ℕ
+  pub words : List ℕ
+  pub output : List ℕ
+
+unfoldable pub valueCall : List ℕ → (kinds words : List ℕ) (count place : ℕ) (partKinds partWords out : List ℕ) (at : ℕ) → ValueCall
+valueCall text ks ws count place pks pws out at =
+    let ls = lexemesFrom ks ws count place in
+    let p = partsIn (placesOf pks pws) place ls in
+    let v = valueOf text ls p out at in
+    record {
+      answer = v .answer;
+      parts = length (p .found);
+      kinds = kindsWith (p .found) pks;
+      words = wordsWith (p .found) pws;
+      output = v .output;
+    }
+
+-- "Handing back": "a check gives 3, then 40 for a part outside its slice"
+unfoldable pub handedPart : (text out : List ℕ) → Where → Answer (List ℕ)
+handedPart text out (inText a e) = resolved text (span 0 a e)
+handedPart text out (inOutput a e) = resolved out (span 0 a e)
+
+abbrev pub handCheck : (text out : List ℕ) → Where → Verdict
+handCheck text out p = verdictOn (handedPart text out p)
+
+-- "and the handing call then returns the text's empty start"
+abbrev pub orEmpty : Answer (List ℕ) → List ℕ
+orEmpty (given w) = w
+orEmpty (refused r) = []
+
+abbrev pub handed : (text out : List ℕ) → Where → List ℕ
+handed text out p = orEmpty (handedPart text out p)

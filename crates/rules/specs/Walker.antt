@@ -1,0 +1,105 @@
+-- "The walker, opened with a text and an id".
+use Prim.Native.Nat.{ℕ, _+_, _*_}
+use mathlib.Core.List.{List, [], _∷_, map, reverse}
+use mathlib.Core.Bool.{Bool, cond, not, _&&_, _||_}
+use mathlib.Core.Option.{Option, none, some}
+use lib.Dec.{leb, ltb, eqb}
+use lib.ListN.{take, drop, length, set}
+use Rattle.rules.specs.Utf8.{firstBad}
+use Rattle.rules.specs.Refusals.{NotUtf8, TooLong, StackFull, WrongForm}
+use Rattle.rules.specs.Spans.{Span, span, low, high, limit, Refusal, Answer, given, refused, refuse, Verdict}
+use Rattle.rules.specs.Kinds.{isOpener}
+use Rattle.rules.specs.Step.{Step, found, stop, step}
+use Rattle.rules.specs.Lexing.{stopped, Lexeme, lexeme, atEnd, innermost, depthAfter, verdictOf, placesOf, lexemesIn}
+
+-- what a walker has beside the text that it borrows: its document id, position and depth, and a refusal met at its opening
+pub record Walker : Type 0 where
+  pub doc : ℕ
+  pub at : ℕ
+  pub depth : ℕ
+  pub refusal : Option Refusal
+
+abbrev pub unmarked : (number : ℕ) → Span → Option Refusal
+unmarked n s = some (record { number = n; at = s; note = none })
+
+abbrev pub badAt : (doc : ℕ) → Option ℕ → Option Refusal
+badAt doc none = none
+badAt doc (some at) = unmarked NotUtf8 (span doc at at)
+
+-- "keeps a refusal 2 or 1 met there"
+unfoldable pub opening : (doc : ℕ) → List ℕ → Walker
+opening doc text = record {
+  doc = doc;
+  at = 0;
+  depth = 0;
+  refusal = cond (ltb limit (length text)) (unmarked TooLong (span doc 0 0)) (badAt doc (firstBad text));
+}
+
+-- a step's answer: a lexeme, "a Space included"; or none, "ended"
+pub record Walked : Type 0 where
+  pub answer : Answer (Option Lexeme)
+  pub walker : Walker
+  pub kinds : List ℕ
+  pub words : List ℕ
+
+-- what the stack has open, innermost first
+abbrev pub openIn : (kinds words : List ℕ) (depth : ℕ) → List Lexeme
+openIn ks ws depth = reverse (take depth (lexemesIn ks ws))
+
+abbrev pub codesOf : List Lexeme → List ℕ
+codesOf = map (λ l. l .kind)
+
+-- "40 with 0-0 when the position is past the end, the depth is above the stack's places, or the innermost opener's code is none of 5 to 8, 14, 33, 35, 37"
+unfoldable pub isAstray : List ℕ → Walker → (kinds words : List ℕ) → Bool
+isAstray text w ks ws =
+    ltb (length text) (w .at)
+    || ltb (placesOf ks ws) (w .depth)
+    || not (eqb (w .depth) 0) && not (isOpener (innermost (codesOf (openIn ks ws (w .depth)))))
+
+-- "Only an opener writes to the stack, at the place numbered by the depth before it"
+unfoldable pub kindsPut : (depth : ℕ) → Lexeme → List ℕ → List ℕ
+kindsPut depth l ks = cond (isOpener (l .kind)) (set ks depth (l .kind)) ks
+
+unfoldable pub wordsPut : (depth : ℕ) → Lexeme → List ℕ → List ℕ
+wordsPut depth l ws = cond (isOpener (l .kind)) (set (set ws (depth * 2) (low (l .at))) (depth * 2 + 1) (high (l .at))) ws
+
+module _ (text : List ℕ) (w : Walker) (ks ws : List ℕ) where
+  -- "a refused step changes nothing"; nor does the end
+  abbrev pub stays : Answer (Option Lexeme) → Walked
+  stays a = record { answer = a; walker = w; kinds = ks; words = ws }
+
+  abbrev pub goes : Lexeme → Walked
+  goes l = record {
+    answer = given (some l);
+    walker = record { doc = w .doc; at = l .at .end; depth = depthAfter (w .depth) (l .kind); refusal = w .refusal };
+    kinds = kindsPut (w .depth) l ks;
+    words = wordsPut (w .depth) l ws;
+  }
+
+  -- "at the end it gives 25 to 28 or else \"ended\""
+  abbrev pub walkedEnd : Verdict → Walked
+  walkedEnd (given u) = stays (given none)
+  walkedEnd (refused r) = stays (refused r)
+
+  -- a lexeme, then 30
+  abbrev pub walkedStep : Step → Walked
+  walkedStep (stop number from n) = walkedEnd (verdictOf (w .doc) (w .at) (openIn ks ws (w .depth)) (stopped number from n))
+  walkedStep (found k n) =
+      let l = lexeme k (span (w .doc) (w .at) (w .at + n)) in
+      cond (isOpener k && leb (placesOf ks ws) (w .depth)) (stays (refuse StackFull (l .at))) (goes l)
+
+  abbrev pub walkedAt : List ℕ → Walked
+  walkedAt [] = walkedEnd (verdictOf (w .doc) (w .at) (openIn ks ws (w .depth)) (atEnd (codesOf (openIn ks ws (w .depth)))))
+  walkedAt (b ∷ s) = walkedStep (step (innermost (codesOf (openIn ks ws (w .depth)))) (b ∷ s))
+
+  -- "Before that a step gives 2, then 40"
+  abbrev pub walkedFresh : Option Refusal → Walked
+  walkedFresh (some r) = stays (refused r)
+  walkedFresh none =
+      cond (ltb limit (length text)) (stays (refuse TooLong (span (w .doc) 0 0))) (
+      cond (isAstray text w ks ws) (stays (refuse WrongForm (span (w .doc) 0 0)))
+      (walkedAt (drop (w .at) text)))
+
+-- one step of a walker over its text, with a stack in two arrays
+unfoldable pub walking : (text : List ℕ) → Walker → (kinds words : List ℕ) → Walked
+walking text w ks ws = walkedFresh text w ks ws (w .refusal)

@@ -1,0 +1,35 @@
+-- What the code's answers mean: the paper's number and values for each case.
+use Prim.Native.Nat.{ℕ}
+use mathlib.Core.List.{List}
+use Rattle.rules.specs.Refusals.{BadSpan, WrongForm}
+use Rattle.rules.specs.Spans.{Span as SpanRule, spanOf, nowhere, bytesAt, Answer, given, refused, refuse}
+use Rattle.source.specs.declared.Span.{Span}
+use Rattle.source.specs.declared.Spanned.{Spanned}
+use Rattle.source.specs.declared.Spanned.the-variants.{Made, Refused}
+use Rattle.source.specs.declared.Length.{Length}
+use Rattle.source.specs.declared.Length.the-variants.{Bytes, Refused as NoLength}
+use Rattle.source.specs.declared.Inside.{Inside}
+use Rattle.source.specs.declared.Inside.the-variants.{Yes, Bad, Outside}
+
+-- the span that two words name
+abbrev pub spanMeant : Span → SpanRule
+spanMeant s = spanOf (s .low) (s .high)
+
+abbrev pub spannedMeant : Spanned → Answer SpanRule
+spannedMeant (Made s) = given (spanMeant s)
+spannedMeant Refused = refuse BadSpan nowhere
+
+abbrev pub lengthMeant : Length → Answer ℕ
+lengthMeant (Bytes n) = given n
+lengthMeant NoLength = refuse BadSpan nowhere
+
+-- of a span and the text that it was held against
+abbrev pub insideMeant : Inside → List ℕ → SpanRule → Answer (List ℕ)
+insideMeant Yes text s = given (bytesAt text s)
+insideMeant Bad text s = refuse BadSpan nowhere
+insideMeant (Outside at) text s = refuse WrongForm (spanOf (at .low) (at .high))
+
+-- the bytes handed out: none where the span is refused
+abbrev pub partOf : Answer (List ℕ) → List ℕ
+partOf (given w) = w
+partOf (refused r) = mathlib.Core.List.List.[]

@@ -1,0 +1,197 @@
+// RCL -- A reasonable configuration language.
+// Copyright 2023 Ruud van Asseldonk
+// Licensed under the Apache License, Version 2.0 (the "License"): see NOTICE.
+// From src/source.rs of RCL, changed: a span is passed by value, and what the Rust asserts is refused.
+
+// Types for dealing with input source code.
+ghost use mathlib.Core.Path.{_≡_};
+ghost use Prim.Native.Nat.{min, max, _%_, _^_};
+ghost use mathlib.Core.Bool.{not, _&&_};
+ghost use lib.Dec.{eqb};
+ghost use Rattle.rules.specs.Spans.{span, isBad, newSpan, lenOf, trimStart, trimEnd, untilOf, unionOf, resolved};
+ghost use Rattle.source.specs.Meaning.{spanMeant, spannedMeant, lengthMeant, insideMeant, partOf};
+
+// Marks a location in a source file by byte offset. Packed, from the least significant bit: 48 bits start offset, 48 bits end offset, 32 bits document id.
+pub struct Span {
+    pub low: u64,
+    pub high: u64,
+}
+
+// A span, or refusal 3.
+pub enum Spanned {
+    Made(Span),
+    Refused,
+}
+
+// A length in bytes, or refusal 3.
+pub enum Length {
+    Bytes(usize),
+    Refused,
+}
+
+// Whether a span lies inside a text: refusal 3, then 40 with the span.
+pub enum Inside {
+    Yes,
+    Bad,
+    Outside(Span),
+}
+
+impl Span {
+    pub fn new(doc: u32, start: usize, end: usize) -> Spanned
+        ensures { λ r. ⌜ spannedMeant r ≡ newSpan doc start end ⌝ }
+    {
+        if end < start {
+            return Spanned::Refused;
+        }
+        if 0xffff_ffff_ffff < end {
+            return Spanned::Refused;
+        }
+        Spanned::Made(Span::pack(doc, start, end))
+    }
+
+    // The span of the low 48 bits of two offsets: for offsets within the limit, the span that they name.
+    pub fn pack(doc: u32, start: usize, end: usize) -> Span
+        ensures { λ r. ⌜ spanMeant r ≡ span doc (start % 2 ^ 48) (end % 2 ^ 48) ⌝ }
+    {
+        let s = (start as u64) % 0x1_0000_0000_0000;
+        let e = (end as u64) % 0x1_0000_0000_0000;
+        Span {
+            low: s + e % 0x1_0000 * 0x1_0000_0000_0000,
+            high: e / 0x1_0000 + (doc as u64) * 0x1_0000_0000,
+        }
+    }
+
+    // Id of the document that this span belongs to.
+    pub fn doc(self) -> u32
+        ensures { λ r. ⌜ r ≡ spanMeant self .doc ⌝ }
+    {
+        (self.high / 0x1_0000_0000) as u32
+    }
+
+    // Start byte offset of the span, inclusive.
+    pub fn start(self) -> usize
+        ensures { λ r. ⌜ r ≡ spanMeant self .start ⌝ }
+    {
+        (self.low % 0x1_0000_0000_0000) as usize
+    }
+
+    // End byte offset of the span, exclusive.
+    pub fn end(self) -> usize
+        ensures { λ r. ⌜ r ≡ spanMeant self .end ⌝ }
+    {
+        (self.low / 0x1_0000_0000_0000 + self.high % 0x1_0000_0000 * 0x1_0000) as usize
+    }
+
+    // Length of this span in bytes.
+    pub fn len(self) -> Length
+        ensures { λ r. ⌜ lengthMeant r ≡ lenOf (spanMeant self) ⌝ }
+    {
+        let s = self.start();
+        let e = self.end();
+        if e < s {
+            return Length::Refused;
+        }
+        Length::Bytes(e - s)
+    }
+
+    // Whether the span lies inside a text.
+    pub fn inside(self, text: &[u8]) -> Inside
+        ensures { λ r. ⌜ insideMeant r (now (text .entry)) (spanMeant self) ≡ resolved (now (text .entry)) (spanMeant self) ⌝ }
+    {
+        let s = self.start();
+        let e = self.end();
+        if e < s {
+            return Inside::Bad;
+        }
+        if text.len() < e {
+            return Inside::Outside(self);
+        }
+        Inside::Yes
+    }
+
+    // Delete n bytes from the start of the span.
+    pub fn trim_start(self, n: usize) -> Spanned
+        ensures { λ r. ⌜ spannedMeant r ≡ trimStart (spanMeant self) n ⌝ }
+    {
+        let s = self.start();
+        let e = self.end();
+        if e < s {
+            return Spanned::Refused;
+        }
+        Spanned::Made(Span::pack(self.doc(), s + least(n, e - s), e))
+    }
+
+    // Delete n bytes from the end of the span.
+    pub fn trim_end(self, n: usize) -> Spanned
+        ensures { λ r. ⌜ spannedMeant r ≡ trimEnd (spanMeant self) n ⌝ }
+    {
+        let s = self.start();
+        let e = self.end();
+        if e < s {
+            return Spanned::Refused;
+        }
+        Spanned::Made(Span::pack(self.doc(), s, e - least(n, e - s)))
+    }
+
+    // Whether two spans are of one document and neither has its start after its end.
+    fn together(self, other: Span) -> bool
+        ensures { λ r. ⌜ r ≡ not (isBad (spanMeant self)) && not (isBad (spanMeant other)) && eqb (spanMeant self .doc) (spanMeant other .doc) ⌝ }
+    {
+        let s = self.start();
+        let e = self.end();
+        let t = other.start();
+        let f = other.end();
+        (s <= e) & (t <= f) & (self.doc() == other.doc())
+    }
+
+    // Return a span that runs from self up to but not including `other`.
+    pub fn until(self, other: Span) -> Spanned
+        ensures { λ r. ⌜ spannedMeant r ≡ untilOf (spanMeant self) (spanMeant other) ⌝ }
+    {
+        if !self.together(other) {
+            return Spanned::Refused;
+        }
+        Span::new(self.doc(), self.start(), other.start())
+    }
+
+    // Return a span that encloses both spans.
+    pub fn union(self, other: Span) -> Spanned
+        ensures { λ r. ⌜ spannedMeant r ≡ unionOf (spanMeant self) (spanMeant other) ⌝ }
+    {
+        if !self.together(other) {
+            return Spanned::Refused;
+        }
+        Spanned::Made(Span::pack(
+            self.doc(),
+            least(self.start(), other.start()),
+            most(self.end(), other.end()),
+        ))
+    }
+}
+
+// The part of a text that a span names; the text's empty start where `inside` refuses.
+pub fn resolve(text: &[u8], span: Span) -> &[u8]
+    ensures { λ r. ⌜ now r ≡ partOf (resolved (now (text .entry)) (spanMeant span)) ⌝ }
+{
+    let s = span.start();
+    let e = span.end();
+    if e < s {
+        return &text[..0];
+    }
+    if text.len() < e {
+        return &text[..0];
+    }
+    &text[s..e]
+}
+
+fn least(a: usize, b: usize) -> usize
+    ensures { λ r. ⌜ r ≡ min a b ⌝ }
+{
+    if a < b { a } else { b }
+}
+
+fn most(a: usize, b: usize) -> usize
+    ensures { λ r. ⌜ r ≡ max a b ⌝ }
+{
+    if a < b { b } else { a }
+}

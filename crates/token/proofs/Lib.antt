@@ -1,0 +1,2 @@
+-- codes lead both ways
+pub mod Codes

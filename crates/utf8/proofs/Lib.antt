@@ -1,0 +1,2 @@
+-- laws of the records of specs/Ahead.antt
+pub mod Ahead

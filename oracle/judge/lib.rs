@@ -1,0 +1,21 @@
+//! The judge: RCL's published lexer, unchanged, and what document 01 says on
+//! top of it. The build puts the published files beside links to ours.
+
+// The published files hold more than is asked of them here.
+#![allow(dead_code)]
+
+pub mod cst;
+pub mod error;
+pub mod lexer;
+pub mod source;
+pub mod string;
+
+pub mod arguments;
+pub mod codes;
+pub mod generate;
+pub mod reference;
+pub mod refusal;
+pub mod report;
+
+#[cfg(test)]
+mod marked;

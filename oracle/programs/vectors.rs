@@ -1,0 +1,267 @@
+//! Writes the fixed list that the gate's program `vectors` replays: the calls to one file, the answers to another, line for line.
+//! oracle/README.md describes the lines.
+
+use std::collections::HashSet;
+use std::fs::File;
+use std::io::{BufWriter, Write};
+
+use judge::generate::utf8;
+use judge::source::{words, DocId, Span};
+
+const MADE: &str =
+    "# Made by oracle/vectors from the published Rust (ruuda/rcl, 9f705cc6dd) and its std.";
+
+fn main() {
+    let names: Vec<String> = std::env::args().skip(1).collect();
+    let [calls, answers] = &names[..] else {
+        panic!("Expected two file names, for the calls and for the answers.");
+    };
+    let mut lines = vec![(MADE.to_string(), MADE.to_string())];
+    lines.extend(utf8_texts().iter().map(|text| utf8_line(text)));
+    lines.extend(span_lines());
+    let lines = without_repeats(lines);
+    write_lines(calls, lines.iter().map(|line| &line.0));
+    write_lines(answers, lines.iter().map(|line| &line.1));
+}
+
+fn write_lines<'a>(name: &str, lines: impl Iterator<Item = &'a String>) {
+    let mut file = BufWriter::new(File::create(name).expect("The file can be written."));
+    for line in lines {
+        writeln!(file, "{line}").expect("The line can be written.");
+    }
+}
+
+/// A call, and its answer.
+type Line = (String, String);
+
+fn without_repeats(lines: Vec<Line>) -> Vec<Line> {
+    let mut seen = HashSet::new();
+    let mut lines = lines;
+    lines.retain(|line| seen.insert(line.clone()));
+    lines
+}
+
+// UTF-8.
+
+fn utf8_line(text: &[u8]) -> Line {
+    let bytes = match text {
+        [] => "-".to_string(),
+        _ => text.iter().map(|byte| format!("{byte:02x}")).collect(),
+    };
+    let answer = match std::str::from_utf8(text) {
+        Ok(_) => "ok".to_string(),
+        Err(error) => error.valid_up_to().to_string(),
+    };
+    (format!("utf8 {bytes}"), answer)
+}
+
+fn utf8_texts() -> Vec<Vec<u8>> {
+    let mut texts = utf8::texts();
+    texts.extend((0..=0xff).map(|byte| vec![byte]));
+    for form in &utf8::FORMS {
+        texts.extend(truncated(form));
+    }
+    for len in BEFORE {
+        texts.extend(behind(len));
+    }
+    texts
+}
+
+/// A form cut short: at the end, before ASCII, before a sequence.
+fn truncated(form: &[(u8, u8)]) -> Vec<Vec<u8>> {
+    let after: [&[u8]; 3] = [b"", b"a", b"\xc3\xa9"];
+    let mut texts = Vec::new();
+    for len in 1..form.len() {
+        for after in after {
+            texts.push([b"z", &utf8::greatest(form)[..len], after].concat());
+        }
+    }
+    texts
+}
+
+/// Lengths of ASCII around those of the blocks that a fast check might use.
+const BEFORE: [usize; 21] = [
+    3, 7, 8, 14, 15, 16, 28, 29, 30, 31, 32, 33, 47, 48, 60, 61, 62, 63, 64, 65, 96,
+];
+
+/// Good and bad sequences behind so much ASCII.
+fn behind(len: usize) -> Vec<Vec<u8>> {
+    let sequences: [&[u8]; 8] = [
+        b"",
+        b"\xc3\xa9a",
+        b"\xe2\x82\xac",
+        b"\xf0\x9f\x98\x80\xc3\xa9",
+        b"\x80",
+        b"\xe2\x82",
+        b"\xc3\xa9\xed\xa0\x80",
+        b"\xf0\x9f\x98aaaaaaaaaaaaaaaaaaaaaaaaaaaaaaaa",
+    ];
+    let ascii: Vec<u8> = (0..len).map(|at| b'!' + (at % 90) as u8).collect();
+    let join = |sequence: &&[u8]| [&ascii[..], sequence].concat();
+    sequences.iter().map(join).collect()
+}
+
+// Spans.
+
+const LONGEST: u64 = (1 << 48) - 1;
+
+const OFFSETS: [u64; 6] = [0, 1, 0xffff, 0x1_0000, 0x1_0000_0000, LONGEST];
+
+const TOO_LARGE: [u64; 2] = [LONGEST + 1, u64::MAX];
+
+const DOCS: [u32; 3] = [0, 1, u32::MAX];
+
+const REFUSED: &str = "refused 3";
+
+/// A span as document 01 packs it, also where its start is after its end.
+fn packed(doc: u32, start: u64, end: u64) -> Span {
+    let low = start + (end % (1 << 16) << 48);
+    let high = (end >> 16) + ((doc as u64) << 32);
+    let span = words::to_span(low, high);
+    if start <= end {
+        let published = Span::new(DocId(doc), start as usize, end as usize);
+        assert_eq!(published, span, "Document 01 packs as the Rust does.");
+    }
+    span
+}
+
+fn is_bad(span: Span) -> bool {
+    span.start() > span.end()
+}
+
+fn written(span: Span) -> String {
+    let (low, high) = words::of(span);
+    format!("{low} {high}")
+}
+
+fn span_lines() -> Vec<Line> {
+    let mut lines = new_lines();
+    for span in spans() {
+        lines.extend(field_lines(span));
+        lines.extend(trim_lines(span));
+    }
+    for (one, other) in pairs() {
+        lines.push(until_line(one, other));
+        lines.push(union_line(one, other));
+    }
+    lines
+}
+
+fn new_lines() -> Vec<Line> {
+    let all = [&OFFSETS[..], &TOO_LARGE].concat();
+    let mut lines = grid(1, &all);
+    lines.extend(grid(0, &OFFSETS));
+    lines.extend(grid(u32::MAX, &OFFSETS));
+    lines
+}
+
+fn grid(doc: u32, offsets: &[u64]) -> Vec<Line> {
+    let ends = |start: u64| offsets.iter().map(move |end| new_line(doc, start, *end));
+    offsets.iter().flat_map(|start| ends(*start)).collect()
+}
+
+fn new_line(doc: u32, start: u64, end: u64) -> Line {
+    let answer = match start <= end && end <= LONGEST {
+        true => written(Span::new(DocId(doc), start as usize, end as usize)),
+        false => REFUSED.to_string(),
+    };
+    (format!("span new {doc} {start} {end}"), answer)
+}
+
+/// Each pair of offsets once, in both orders, with the documents in turn.
+fn spans() -> Vec<Span> {
+    let mut spans = Vec::new();
+    for (at, start) in OFFSETS.iter().enumerate() {
+        for (to, end) in OFFSETS.iter().enumerate() {
+            spans.push(packed(DOCS[(at + to) % 3], *start, *end));
+        }
+    }
+    spans
+}
+
+fn field_lines(span: Span) -> [Line; 4] {
+    let words = written(span);
+    let len = match is_bad(span) {
+        true => REFUSED.to_string(),
+        false => span.len().to_string(),
+    };
+    [
+        (format!("span doc {words}"), span.doc().0.to_string()),
+        (format!("span start {words}"), span.start().to_string()),
+        (format!("span end {words}"), span.end().to_string()),
+        (format!("span len {words}"), len),
+    ]
+}
+
+fn trim_lines(span: Span) -> Vec<Line> {
+    let mut lines = Vec::new();
+    for n in trims(span) {
+        lines.push(trim_line("trim_start", span, n, Span::trim_start));
+        lines.push(trim_line("trim_end", span, n, Span::trim_end));
+    }
+    lines
+}
+
+/// A byte, all of it, and more than there is.
+fn trims(span: Span) -> Vec<usize> {
+    if is_bad(span) {
+        return vec![1];
+    }
+    let mut trims = vec![1, span.len(), usize::MAX];
+    trims.dedup();
+    trims
+}
+
+fn trim_line(name: &str, span: Span, n: usize, trim: fn(&Span, usize) -> Span) -> Line {
+    let answer = match is_bad(span) {
+        true => REFUSED.to_string(),
+        false => written(trim(&span, n)),
+    };
+    (format!("span {name} {} {n}", written(span)), answer)
+}
+
+/// Good spans of one document beside each other; some of two documents; bad ones.
+fn pairs() -> Vec<(Span, Span)> {
+    let one = |start: usize, end: usize| packed(1, OFFSETS[start], OFFSETS[end]);
+    let good = [
+        one(0, 0),
+        one(0, 2),
+        one(1, 3),
+        one(2, 2),
+        one(3, 4),
+        one(4, 5),
+        one(5, 5),
+    ];
+    let mut pairs: Vec<(Span, Span)> = Vec::new();
+    for first in good {
+        pairs.extend(good.map(|second| (first, second)));
+    }
+    let apart = packed(2, 3, 5);
+    let bad = packed(1, 5, 3);
+    for span in good {
+        pairs.extend([(span, apart), (apart, span), (span, bad), (bad, span)]);
+    }
+    pairs
+}
+
+/// The release build's answer, but for two documents and bad spans.
+fn until_line(one: Span, other: Span) -> Line {
+    let refused = cannot_pair(one, other) || one.start() > other.start();
+    let answer = match refused {
+        true => REFUSED.to_string(),
+        false => written(one.until(other)),
+    };
+    (format!("span until {} {}", written(one), written(other)), answer)
+}
+
+fn union_line(one: Span, other: Span) -> Line {
+    let answer = match cannot_pair(one, other) {
+        true => REFUSED.to_string(),
+        false => written(one.union(other)),
+    };
+    (format!("span union {} {}", written(one), written(other)), answer)
+}
+
+fn cannot_pair(one: Span, other: Span) -> bool {
+    is_bad(one) || is_bad(other) || one.doc() != other.doc()
+}
