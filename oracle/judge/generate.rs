@@ -5,7 +5,9 @@ mod damage;
 pub mod exhaustive;
 pub mod fixed;
 mod grammar;
+pub mod nested;
 pub mod random;
+pub mod rfc8259;
 pub mod utf8;
 
 use exhaustive::Exhaustive;

@@ -5,7 +5,10 @@ use std::collections::HashSet;
 use std::fs::File;
 use std::io::{BufWriter, Write};
 
-use judge::generate::utf8;
+use judge::generate::random::Random;
+use judge::generate::{fixed, nested, rfc8259, utf8, Texts};
+use judge::reference::{trace, within, Answer, Counts, Listed};
+use judge::refusal::Refusal;
 use judge::source::{words, DocId, Span};
 
 const MADE: &str =
@@ -19,6 +22,7 @@ fn main() {
     let mut lines = vec![(MADE.to_string(), MADE.to_string())];
     lines.extend(utf8_texts().iter().map(|text| utf8_line(text)));
     lines.extend(span_lines());
+    lines.extend(lex_lines());
     let lines = without_repeats(lines);
     write_lines(calls, lines.iter().map(|line| &line.0));
     write_lines(answers, lines.iter().map(|line| &line.1));
@@ -44,15 +48,18 @@ fn without_repeats(lines: Vec<Line>) -> Vec<Line> {
 // UTF-8.
 
 fn utf8_line(text: &[u8]) -> Line {
-    let bytes = match text {
-        [] => "-".to_string(),
-        _ => text.iter().map(|byte| format!("{byte:02x}")).collect(),
-    };
     let answer = match std::str::from_utf8(text) {
         Ok(_) => "ok".to_string(),
         Err(error) => error.valid_up_to().to_string(),
     };
-    (format!("utf8 {bytes}"), answer)
+    (format!("utf8 {}", hexadecimal(text)), answer)
+}
+
+fn hexadecimal(text: &[u8]) -> String {
+    match text {
+        [] => "-".to_string(),
+        _ => text.iter().map(|byte| format!("{byte:02x}")).collect(),
+    }
 }
 
 fn utf8_texts() -> Vec<Vec<u8>> {
@@ -264,4 +271,130 @@ fn union_line(one: Span, other: Span) -> Line {
 
 fn cannot_pair(one: Span, other: Span) -> bool {
     is_bad(one) || is_bad(other) || one.doc() != other.doc()
+}
+
+// Lexing.
+
+/// So that a call fits a line.
+const LONGEST_TEXT: usize = 120;
+
+/// As many places as a call of the list may lend.
+const MOST_LISTED: usize = 160;
+const MOST_OPEN: usize = 64;
+
+/// The sample of the generators: always the same one. Most texts are short, so
+/// that the list stays small.
+const SEED: u64 = 2026;
+const SHORT_TEXTS: usize = 2050;
+const SHORT_TEXT: usize = 40;
+const LONG_TEXTS: usize = 600;
+const NESTED_TEXTS: usize = 150;
+const DEEPEST: usize = 45;
+
+/// One text of the sample in so many is also lexed with little memory.
+const LITTLE_ONCE_IN: usize = 2;
+
+fn lex_lines() -> Vec<Line> {
+    let mut random = Random::new(SEED);
+    let mut lines = Vec::new();
+    for text in chosen_texts() {
+        lines.extend(ample_line(&mut random, &text));
+        lines.extend(little_lines(&mut random, &text, 2));
+    }
+    for text in sampled_texts() {
+        lines.extend(ample_line(&mut random, &text));
+        if random.once_in(LITTLE_ONCE_IN) {
+            lines.extend(little_lines(&mut random, &text, 1));
+        }
+    }
+    lines
+}
+
+/// Document 01's examples, the texts of its readings, each refusal, and RFC 8259.
+fn chosen_texts() -> Vec<Vec<u8>> {
+    let mut texts = fixed::texts();
+    texts.extend(rfc8259::short_texts(LONGEST_TEXT));
+    texts
+}
+
+fn sampled_texts() -> Vec<Vec<u8>> {
+    let mut random = Random::new(SEED);
+    let short = Texts::without_fixed(SEED, SHORT_TEXT).take(SHORT_TEXTS);
+    let long = Texts::without_fixed(SEED + 1, LONGEST_TEXT).take(LONG_TEXTS);
+    let mut texts: Vec<Vec<u8>> = short.chain(long).collect();
+    let nested = |_| nested::text(&mut random, DEEPEST, LONGEST_TEXT);
+    texts.extend((0..NESTED_TEXTS).map(nested));
+    texts
+}
+
+fn doc(random: &mut Random) -> DocId {
+    DocId(DOCS[random.below(DOCS.len())])
+}
+
+fn ample_line(random: &mut Random, text: &[u8]) -> Option<Line> {
+    lex_line(doc(random), MOST_LISTED, MOST_OPEN, text)
+}
+
+/// The same text with so many pairs of sizes around what it needs. Without a
+/// lexeme there is nothing to run out of.
+fn little_lines(random: &mut Random, text: &[u8], count: usize) -> Vec<Line> {
+    let doc = doc(random);
+    let needed = within(&trace(text, doc), MOST_LISTED, MOST_OPEN).counts;
+    if needed.lexemes == 0 {
+        return Vec::new();
+    }
+    let mut sizes = || little(random, needed);
+    let sizes: Vec<_> = (0..count).map(|_| sizes()).collect();
+    let line = |(list, stack)| lex_line(doc, list, stack, text);
+    sizes.into_iter().filter_map(line).collect()
+}
+
+/// Places for list and stack: just enough, or one or both too few.
+fn little(random: &mut Random, needed: Counts) -> (usize, usize) {
+    let list = random.below(needed.lexemes + 1);
+    let stack = random.below(needed.deepest + 1);
+    match random.below(4) {
+        0 => (needed.lexemes, needed.deepest),
+        1 => (list, MOST_OPEN),
+        2 => (MOST_LISTED, stack),
+        _ => (list, stack),
+    }
+}
+
+fn lex_line(doc: DocId, list: usize, stack: usize, text: &[u8]) -> Option<Line> {
+    if text.len() > LONGEST_TEXT {
+        return None;
+    }
+    let answer = within(&trace(text, doc), list, stack);
+    let bytes = hexadecimal(text);
+    let call = format!("lex {} {list} {stack} {bytes}", doc.0);
+    Some((call, written_answer(&answer)))
+}
+
+fn written_answer(answer: &Answer) -> String {
+    let verdict = match answer.refusal {
+        None => "accepted".to_string(),
+        Some(refusal) => written_refusal(refusal),
+    };
+    let Counts {
+        lexemes,
+        steps,
+        kept,
+        dropped,
+        deepest,
+    } = answer.counts;
+    let listed: String = answer.listed.iter().map(written_lexeme).collect();
+    format!("{verdict} ; {lexemes} {steps} {kept} {dropped} {deepest} ;{listed}")
+}
+
+fn written_refusal(refusal: Refusal) -> String {
+    let plain = format!("refused {} {}", refusal.number, written(refusal.span));
+    match refusal.note {
+        None => plain,
+        Some(note) => format!("{plain} {}", written(note)),
+    }
+}
+
+fn written_lexeme(listed: &Listed) -> String {
+    format!(" {} {}", listed.code, written(listed.span))
 }

@@ -1,7 +1,12 @@
 // The exported interface, for C and Rust. include/rcl.h documents each call.
 ghost use mathlib.Core.Path.{_≡_};
 ghost use Rattle.rules.specs.Utf8.{firstBad};
-ghost use Rattle.rcl.specs.Words.{offsetOrAll};
+ghost use Rattle.rules.specs.Lexing.{Lexes};
+ghost use Rattle.lexer.specs.Results.{lexedMeant};
+ghost use Rattle.rcl.specs.Words.{offsetOrAll, wordsOf, wordsMeant};
+use lexer::Answer;
+use lexer::Lexed;
+use source::Note;
 use utf8::Checked;
 
 // Where the first bad sequence begins, or 2^64 − 1 where the text is UTF-8.
@@ -14,4 +19,81 @@ pub extern "C" fn rcl_utf8(text: &[u8]) -> u64
         Checked::Valid => 0xffff_ffff_ffff_ffff,
         Checked::BadAt(at) => at as u64,
     }
+}
+
+// The result of lexing in words: whether it was refused, the refusal's number and span, whether there is a note and its span, and the counts.
+#[repr(C)]
+pub struct LexedWords {
+    pub refused: u64,
+    pub number: u64,
+    pub low: u64,
+    pub high: u64,
+    pub noted: u64,
+    pub notelow: u64,
+    pub notehigh: u64,
+    pub lexemes: u64,
+    pub steps: u64,
+    pub kept: u64,
+    pub dropped: u64,
+    pub deepest: u64,
+}
+
+// A result with no refusal yet, by its counts.
+fn counted(r: Lexed) -> LexedWords
+    ensures { λ w. ⌜ w ≡ wordsOf r 0 0 0 0 0 0 0 ⌝ }
+{
+    LexedWords {
+        refused: 0,
+        number: 0,
+        low: 0,
+        high: 0,
+        noted: 0,
+        notelow: 0,
+        notehigh: 0,
+        lexemes: r.lexemes as u64,
+        steps: r.steps as u64,
+        kept: r.kept as u64,
+        dropped: r.dropped as u64,
+        deepest: r.deepest as u64,
+    }
+}
+
+// A result in words.
+fn in_words(r: Lexed) -> LexedWords
+    ensures { λ w. ⌜ wordsMeant w ≡ lexedMeant r ⌝ }
+{
+    let mut w = counted(r);
+    let answer = r.answer;
+    let Answer::Refused(refusal) = answer else {
+        return w;
+    };
+    let at = refusal.at;
+    let note = refusal.note;
+    w.refused = 1;
+    w.number = refusal.number as u64;
+    w.low = at.low;
+    w.high = at.high;
+    let Note::At(span) = note else {
+        return w;
+    };
+    w.noted = 1;
+    w.notelow = span.low;
+    w.notehigh = span.high;
+    w
+}
+
+// Lexes a text into a lent list with a lent stack.
+#[no_mangle]
+pub extern "C" fn rcl_lex(
+    doc: u32,
+    text: &[u8],
+    kinds: &mut [u8],
+    words: &mut [u64],
+    skinds: &mut [u8],
+    swords: &mut [u64],
+) -> LexedWords
+    ensures { λ r. ⌜ Lexes doc (now (text .entry)) (now (kinds .entry)) (now (words .entry)) (now (skinds .entry)) (now (swords .entry)) (wordsMeant r) (now (kinds .exit)) (now (words .exit)) (now (skinds .exit)) (now (swords .exit)) ⌝ }
+{
+    let r = lexer::lex(doc, text, kinds, words, skinds, swords);
+    in_words(r)
 }

@@ -3,16 +3,17 @@ use Prim.Native.Nat.{ℕ, zero, suc, _+_, _≤_, _<_}
 use Prim.Native.Char.{Char, code}
 use Prim.Native.String.{String}
 use Prim.Native.String as S
-use mathlib.Core.Bool.{Bool, true, false, cond, _&&_, and-true, false≢true}
+use mathlib.Core.Bool.{Bool, true, false, cond, _&&_, and-true, and-false, false≢true}
 use mathlib.Core.List.{List, [], _∷_, _++_}
 use mathlib.Core.Path.{_≡_, refl, ap, sym, _∙_, fun-ext}
 use native.Mathlib.Numerals.{add-one}
-use native.Mathlib.Nat.{zero-add, suc-add, not-suc-le-zero, le-of-suc-le-suc}
+use native.Mathlib.Nat.{zero-add, add-zero, suc-add, add-suc, not-suc-le-zero, le-of-suc-le-suc}
 use native.Mathlib.Omega.{arith}
 use lib.Dec.{eqb}
-use lib.ListN.{length, drop, getD, length-drop, drop-of-length-le}
+use borrow.Author.Tests.{eq-eqb, ne-eqb}
+use lib.ListN.{length, take, drop, getD, length-drop, drop-of-length-le}
 use lib.Seq.{drop-cons, drop-nil}
-use Rattle.rules.specs.Text.{is, begins, starts, run}
+use Rattle.rules.specs.Text.{is, begins, same, starts, run}
 
 module _ (p : ℕ → Bool) (t : List ℕ) (i : ℕ) where
   -- one more byte: where the byte at `i` passes, the run from `i` ends where the run from `i + 1` ends
@@ -95,3 +96,49 @@ run-ended p (b ∷ s) r h = go (p b) (run-ended p s r) h
     go : (x : Bool) → (run p s < length s → run p (s ++ r) ≡ run p s) → cond x (suc (run p s)) 0 < suc (length s) → cond x (suc (run p (s ++ r))) 0 ≡ cond x (suc (run p s)) 0
     go true e k = ap suc (e (le-of-suc-le-suc k))
     go false e k = refl
+
+-- a quoted character stands at a position where the byte there is its code
+pub begins-is : (c : Char) (t : List ℕ) (i : ℕ) → is c 0 ≡ false → getD t i 0 ≡ code c → begins (S._∷_ c S.[]) (drop i t) ≡ true
+begins-is c t i z e = begins-at c t i z ∙ eq-eqb _ _ e
+
+-- and not where it is another
+pub begins-not : (c : Char) (t : List ℕ) (i : ℕ) → is c 0 ≡ false → (getD t i 0 ≡ code c → ⊥) → begins (S._∷_ c S.[]) (drop i t) ≡ false
+begins-not c t i z e = begins-at c t i z ∙ ne-eqb _ _ e
+
+-- a quoted character at a position is all that is left where the text ends after it
+pub same-last : (c : Char) (t : List ℕ) (i : ℕ) → i < length t → length t ≤ i + 1 → begins (S._∷_ c S.[]) (drop i t) ≡ true → same (S._∷_ c S.[]) (drop i t) ≡ true
+same-last c t i h k e =
+    let ends : length t ≤ suc i = omega arith in
+    rw (drop-cons t i 0, drop-of-length-le t ends) (rw (drop-cons t i 0) at e)
+
+-- and is not where the text goes on
+pub same-not : (c : Char) (t : List ℕ) (i : ℕ) → i + 1 < length t → same (S._∷_ c S.[]) (drop i t) ≡ false
+same-not c t i h =
+    let here : i < length t = omega arith in
+    let next : suc i < length t = omega arith in
+    rw (drop-cons t i 0 here, drop-cons t (suc i) 0 next) (and-false (is c (getD t i 0)))
+
+-- a byte that passes a test which 0, read past the end, does not pass stands in the text
+pub passes-inside : (p : ℕ → Bool) (t : List ℕ) (i : ℕ) → p 0 ≡ false → p (getD t i 0) ≡ true → i < length t
+passes-inside p [] i z e = absurd (false≢true (sym z ∙ e))
+passes-inside p (b ∷ t) zero z e = omega arith
+passes-inside p (b ∷ t) (suc i) z e = omega (arith, passes-inside p t i z e)
+
+-- a text from a position on, by the byte there
+pub drop-byte : (t : List ℕ) (i b : ℕ) → i < length t → getD t i 0 ≡ b → drop i t ≡ b ∷ drop (i + 1) t
+drop-byte t i b h e = rw (add-one, drop-cons t i 0, e)
+
+-- so many bytes of a text, one by one, from an offset after a position
+abbrev pub bytesFrom : (t : List ℕ) (i offset n : ℕ) → List ℕ
+bytesFrom t i offset zero = []
+bytesFrom t i offset (suc n) = getD t (i + offset) 0 ∷ bytesFrom t i (suc offset) n
+
+-- a part of a text is its bytes
+pub take-bytes : (t : List ℕ) (i n : ℕ) → i + n ≤ length t → take n (drop i t) ≡ bytesFrom t i 0 n
+take-bytes t i n h = ap (λ (k : ℕ). take n (drop k t)) (sym (add-zero i)) ∙ from n 0 (omega arith)
+  where
+    from : (n offset : ℕ) → i + offset + n ≤ length t → take n (drop (i + offset) t) ≡ bytesFrom t i offset n
+    from zero offset k = refl
+    from (suc n) offset k =
+        let inside : i + offset < length t = omega arith in
+        rw (drop-cons t (i + offset) 0, ← add-suc) (ap {B = List ℕ} (λ s. getD t (i + offset) 0 ∷ s) (from n (suc offset) (omega arith)))

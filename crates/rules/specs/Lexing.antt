@@ -1,5 +1,6 @@
 -- Lexing a text: its steps; the lent list and stack; what is listed, counted and refused.
 use Prim.Native.Nat.{ℕ, zero, suc, pred, _+_, _*_, _/_, min, max}
+use mathlib.Core.Path.{_≡_}
 use mathlib.Core.List.{List, [], _∷_, _++_, map}
 use mathlib.Core.Bool.{Bool, true, false, cond, not, _&&_, _||_}
 use mathlib.Core.Option.{Option, none, some}
@@ -205,3 +206,14 @@ listing doc places stack text = listedOf (placed doc 0 ((traceIn places stack te
 -- what a lexing call answers
 unfoldable pub lexing : (doc places stack : ℕ) → List ℕ → Lexed
 lexing doc places stack text = lexedOf doc (traceIn places stack text)
+
+-- what a lexing call leaves, of a list (kinds ks, words ws) and a stack (sk, sw) lent in two arrays each, and afterwards ks′ and so on: its result and list are those above; every place after what was listed, and "Stack places from the deepest
+-- nesting upward", are untouched, "lower ones are free"
+pub record Lexes (doc : ℕ) (text ks ws sk sw : List ℕ) (r : Lexed) (ks′ ws′ sk′ sw′ : List ℕ) : Type 0 where
+  pub result : r ≡ lexing doc (placesOf ks ws) (placesOf sk sw) text
+  pub kinds : ks′ ≡ kindsWith (listing doc (placesOf ks ws) (placesOf sk sw) text) ks
+  pub words : ws′ ≡ wordsWith (listing doc (placesOf ks ws) (placesOf sk sw) text) ws
+  pub stackKinds : drop (r .deepest) sk′ ≡ drop (r .deepest) sk
+  pub stackWords : drop (r .deepest * 2) sw′ ≡ drop (r .deepest * 2) sw
+  pub stackKindsLength : length sk′ ≡ length sk
+  pub stackWordsLength : length sw′ ≡ length sw

@@ -1,9 +1,13 @@
 -- What the code's answers mean: the paper's number and values for each case.
 use Prim.Native.Nat.{ℕ}
 use mathlib.Core.List.{List}
+use mathlib.Core.Option.{Option, none, some}
 use Rattle.rules.specs.Refusals.{BadSpan, WrongForm}
-use Rattle.rules.specs.Spans.{Span as SpanRule, spanOf, nowhere, bytesAt, Answer, given, refused, refuse}
+use Rattle.rules.specs.Spans.{Span as SpanRule, spanOf, nowhere, bytesAt, Refusal as RefusalRule, Answer, given, refused, refuse}
 use Rattle.source.specs.declared.Span.{Span}
+use Rattle.source.specs.declared.Note.{Note}
+use Rattle.source.specs.declared.Note.the-variants.{None, At}
+use Rattle.source.specs.declared.Refusal.{Refusal}
 use Rattle.source.specs.declared.Spanned.{Spanned}
 use Rattle.source.specs.declared.Spanned.the-variants.{Made, Refused}
 use Rattle.source.specs.declared.Length.{Length}
@@ -22,6 +26,13 @@ spannedMeant Refused = refuse BadSpan nowhere
 abbrev pub lengthMeant : Length → Answer ℕ
 lengthMeant (Bytes n) = given n
 lengthMeant NoLength = refuse BadSpan nowhere
+
+abbrev pub noteMeant : Note → Option SpanRule
+noteMeant None = none
+noteMeant (At s) = some (spanMeant s)
+
+abbrev pub refusalMeant : Refusal → RefusalRule
+refusalMeant r = record { number = r .number; at = spanMeant (r .at); note = noteMeant (r .note) }
 
 -- of a span and the text that it was held against
 abbrev pub insideMeant : Inside → List ℕ → SpanRule → Answer (List ℕ)

@@ -36,6 +36,18 @@ pub enum Inside {
     Outside(Span),
 }
 
+// What is turned down: document 01's number, where, and perhaps a second place that explains it.
+pub struct Refusal {
+    pub number: u8,
+    pub at: Span,
+    pub note: Note,
+}
+
+pub enum Note {
+    None,
+    At(Span),
+}
+
 impl Span {
     pub fn new(doc: u32, start: usize, end: usize) -> Spanned
         ensures { λ r. ⌜ spannedMeant r ≡ newSpan doc start end ⌝ }

@@ -1,6 +1,7 @@
 // Replays the fixed list of inputs that oracle/vectors wrote: runs the call that each line names and prints its answer, a line each. The gate holds
 // what is printed to the file stdout, which has the Rust's answers. A line of another kind is printed as it is.
 mod field;
+mod lexes;
 mod spans;
 mod texts;
 
@@ -17,7 +18,11 @@ fn replay(line: &[u8]) {
         if field::is(line, 0, word, b"span") {
             spans::span(line, rest);
         } else {
-            io::write_all(STDOUT_FILENO, line);
+            if field::is(line, 0, word, b"lex") {
+                lexes::lex(line, rest);
+            } else {
+                io::write_all(STDOUT_FILENO, line);
+            }
         }
     }
     io::write_all(STDOUT_FILENO, b"\n");
@@ -34,7 +39,7 @@ fn replay_all(list: &[u8]) {
 }
 
 fn main() {
-    let mut buffer = [0u8; 262144];
+    let mut buffer = [0u8; 393216];
     let n = io::read_full(STDIN_FILENO, &mut buffer);
     replay_all(&buffer[..n]);
 }

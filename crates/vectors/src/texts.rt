@@ -37,7 +37,7 @@ fn pair(high: u8, low: u8) -> u8 {
 }
 
 // Writes the bytes of the field that begins at `start`, as many as there is room for, and says how many.
-fn read_bytes(line: &[u8], start: usize, bytes: &mut [u8]) -> usize
+pub(crate) fn read_bytes(line: &[u8], start: usize, bytes: &mut [u8]) -> usize
     ensures { λ r. ⌜ Counts r (now (bytes .exit)) ⌝ }
 {
     let mut n = 0;

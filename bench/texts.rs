@@ -1,0 +1,76 @@
+//! The texts that are measured, each of at least the size asked for: whole lines
+//! are repeated with changing numbers.
+
+pub fn all(size: usize) -> Vec<(&'static str, Vec<u8>)> {
+    vec![
+        ("move table", move_table(size)),
+        ("long comments", comments(size)),
+        ("nested format strings", format_strings(size)),
+        ("deep indents", indents(size)),
+        ("2^20 spaces", vec![b' '; 1 << 20]),
+        ("long strings", strings(size)),
+        ("ASCII notes", ascii_notes(size)),
+        ("mixed UTF-8 notes", mixed_notes(size)),
+    ]
+}
+
+/// Lines until the text has the size; `line` gets the line's number.
+fn lines(size: usize, line: impl Fn(usize) -> String) -> Vec<u8> {
+    let mut text = String::new();
+    let mut number = 0;
+    while text.len() < size {
+        text.push_str(&line(number));
+        number += 1;
+    }
+    text.into_bytes()
+}
+
+pub fn move_table(size: usize) -> Vec<u8> {
+    lines(size, |n| {
+        let (x, y) = (n % 1000, n * 7 % 400);
+        format!("{{ x = {x}.5, y = -{y}.25e1, note = \"A{}\" }},\n", n % 97)
+    })
+}
+
+fn comments(size: usize) -> Vec<u8> {
+    let words = "the stage waits until the lamp is warm and the cover is shut; ".repeat(16);
+    lines(size, |n| format!("// {n}: {words}\n"))
+}
+
+fn format_strings(size: usize) -> Vec<u8> {
+    lines(size, |n| {
+        format!("f\"row {{a + f\"col {{b{n} + f\"cell {{c}} of {{d}}\"}}!\"}} end\",\n")
+    })
+}
+
+fn indents(size: usize) -> Vec<u8> {
+    lines(size, |n| {
+        let indent = " ".repeat(40 + n % 80);
+        format!("{indent}step{},\n", n % 10)
+    })
+}
+
+fn strings(size: usize) -> Vec<u8> {
+    let words = "scan from the left edge to the right edge, then down by one field; ".repeat(16);
+    lines(size, |n| format!("note{n} = \"{words}\";\n"))
+}
+
+fn ascii_notes(size: usize) -> Vec<u8> {
+    lines(size, |n| {
+        format!("note{n} = \"field {n}: looks good, scan again\"; // by hand\n")
+    })
+}
+
+pub fn mixed_notes(size: usize) -> Vec<u8> {
+    let notes = [
+        "Gr\u{fc}\u{df}e aus dem Labor, Feld",
+        "\u{41f}\u{440}\u{438}\u{432}\u{435}\u{442}, \u{43f}\u{43e}\u{43b}\u{435}",
+        "\u{65e5}\u{672c}\u{8a9e}\u{306e}\u{30e1}\u{30e2}",
+        "smile \u{1f600} here",
+        "plain words here",
+    ];
+    lines(size, |n| {
+        let note = notes[n % notes.len()];
+        format!("note{n} = \"{note} {n}\"; // {note}\n")
+    })
+}

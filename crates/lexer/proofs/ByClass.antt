@@ -1,0 +1,240 @@
+-- The rules' order, by the class of the first byte: each class leaves what `ByClass` of specs/ says.
+use Prim.Native.Nat.{ℕ, suc, _+_, _≤_}
+use Prim.Native.Char.{Char, code}
+use native.Mathlib.Nat.{add-zero, zero-add, add-assoc}
+use native.Mathlib.Omega.{arith}
+use mathlib.Core.Path.{_≡_, refl, sym, _∙_}
+use mathlib.Core.List.{List, [], _∷_}
+use mathlib.Core.Bool.{Bool, true, false, cond, _&&_, _||_, true≢false, false≢true}
+use lib.Dec.{T, leb, ltb, eqb, leb→le, eqb→eq, eqb-refl}
+use lib.ListN.{drop}
+use Rattle.rules.specs.Text.{is, begins, run}
+use Rattle.rules.specs.Bytes.{isWhitespace, isControl, isDigit, isLetter, isPunctuation, isOver127, classOf, Whitespace, Control, Digit, Letter, Punctuation, Over127}
+use Rattle.rules.specs.Refusals.{ControlByte, NotAscii}
+use Rattle.rules.specs.Kinds.{isFormat, isTriple, QuoteClose, HoleOpen, StringInner}
+use Rattle.rules.specs.Step.{Step, found, stop, intLength, exponent, fraction, decimal, number, whitespace, outside, inside, isInner, closesQuote}
+use Rattle.lexer.specs.ByClass.{lettered, punctuated, escaped, fractionAlone}
+
+-- Tests, by their value
+decide : {P : Type 0} (t : Bool) → (t ≡ true → P) → (t ≡ false → P) → P
+decide true f g = f refl
+decide false f g = g refl
+
+or-cases : {P : Type 0} (a b : Bool) → (a ≡ true → P) → (b ≡ true → P) → a || b ≡ true → P
+or-cases true b f g e = f refl
+or-cases false b f g e = g e
+
+and-true : (t : Bool) → t && true ≡ t
+and-true true = refl
+and-true false = refl
+
+and-false : (t : Bool) → t && false ≡ false
+and-false true = refl
+and-false false = refl
+
+cond-same : (t x : Bool) → cond t x x ≡ x
+cond-same true x = refl
+cond-same false x = refl
+
+true-of : (t : Bool) → T t → t ≡ true
+true-of true h = refl
+true-of false h = absurd h
+
+eq-of : (m n : ℕ) → eqb m n ≡ true → m ≡ n
+eq-of m n e = eqb→eq m n (rw e tt)
+
+is-of : (c : Char) (b : ℕ) → is c b ≡ true → b ≡ code c
+is-of c b e = eq-of b (code c) e
+
+le-of : (m n : ℕ) → leb m n ≡ true → m ≤ n
+le-of m n e = leb→le m n (rw e tt)
+
+-- a branch that gives another number is not the one that was taken
+past : (t : Bool) (k x n : ℕ) → eqb k n ≡ false → cond t k x ≡ n → (t ≡ false) × (x ≡ n)
+past true k x n d e = absurd (true≢false (sym (true-of (eqb k k) (eqb-refl k)) ∙ (rw (← e) at d)))
+past false k x n d e = (refl, e)
+
+-- and one is, if the others give more
+taken : (t : Bool) (k x : ℕ) → ltb k x ≡ true → cond t k x ≡ k → t ≡ true
+taken true k x h e = refl
+taken false k x h e = absurd (omega (arith, le-of (suc k) x h))
+
+more : (t : Bool) (k x y : ℕ) → ltb k x ≡ true → ltb k y ≡ true → ltb k (cond t x y) ≡ true
+more true k x y p q = p
+more false k x y p q = q
+
+-- to unfold this is to unfold the classes
+classes : ℕ → ℕ
+unfolding classOf isWhitespace isControl isDigit isLetter isPunctuation
+classes = classOf
+
+-- a byte is no character of another class
+other-class : (c : Char) (b k : ℕ) → eqb (classOf (code c)) k ≡ false → classOf b ≡ k → is c b ≡ false
+other-class c b k d e = decide (is c b)
+    (λ t. let f : classOf (code c) ≡ k = rw (is-of c b t) at e in absurd (true≢false (sym (true-of (eqb k k) (eqb-refl k)) ∙ (rw f at d))))
+    (λ t. t)
+
+-- the punctuation that begins more than itself
+record Unmarked (b : ℕ) : Type 0 where
+  hash : is "#" b ≡ false
+  slash : is "/" b ≡ false
+  quote : is "\"" b ≡ false
+  brace : is "}" b ≡ false
+
+unmarked : (b k : ℕ) → eqb Punctuation k ≡ false → classOf b ≡ k → Unmarked b
+unfolding classes
+unmarked b k d e = record { hash = other-class "#" b k d e; slash = other-class "/" b k d e; quote = other-class "\"" b k d e; brace = other-class "}" b k d e }
+
+not-f : (b k : ℕ) → eqb Letter k ≡ false → classOf b ≡ k → is "f" b ≡ false
+unfolding classes
+not-f b k d e = other-class "f" b k d e
+
+-- white space and other control bytes are in no later class
+whitespace-alone : (b : ℕ) → isWhitespace b ≡ true → (isDigit b ≡ false) × (isLetter b ≡ false)
+unfolding classes
+whitespace-alone b =
+    or-cases (is " " b || is "\t" b || is "\n" b || eqb b 0x0C) (is "\r" b)
+    (or-cases (is " " b || is "\t" b || is "\n" b) (eqb b 0x0C)
+    (or-cases (is " " b || is "\t" b) (is "\n" b)
+    (or-cases (is " " b) (is "\t" b)
+    (λ t. rw (is-of " " b t) (refl, refl)) (λ t. rw (is-of "\t" b t) (refl, refl))) (λ t. rw (is-of "\n" b t) (refl, refl))) (λ t. rw (eq-of b 0x0C t) (refl, refl))) (λ t. rw (is-of "\r" b t) (refl, refl))
+
+under-32 : (c : Char) (b : ℕ) → leb 32 (code c) ≡ true → ltb b 32 ≡ true → leb (code c) b ≡ false
+under-32 c b h t = decide (leb (code c) b) (λ f. absurd (omega (arith, le-of 32 (code c) h, le-of (suc b) 32 t, le-of (code c) b f))) (λ f. f)
+
+not-under-32 : (c : Char) (b : ℕ) → leb 32 (code c) ≡ true → ltb b 32 ≡ true → is c b ≡ false
+not-under-32 c b h t = decide (is c b) (λ f. absurd (omega (arith, le-of 32 (code c) h, le-of (suc b) 32 t, is-of c b f))) (λ f. f)
+
+control-alone : (b : ℕ) → isControl b ≡ true → (isDigit b ≡ false) × (isLetter b ≡ false) × (isPunctuation b ≡ false)
+unfolding classes
+control-alone b = or-cases (ltb b 0x20) (eqb b 0x7F)
+    (λ t. (
+      rw (under-32 "0" b refl t),
+      rw (under-32 "a" b refl t, under-32 "A" b refl t, not-under-32 "_" b refl t),
+      rw (under-32 "!" b refl t, under-32 ":" b refl t, under-32 "[" b refl t, under-32 "{" b refl t),
+    ))
+    (λ t. rw (eq-of b 0x7F t) (refl, refl, refl))
+
+pub at-whitespace : (i b : ℕ) (s : List ℕ) → classOf b ≡ Whitespace → outside i (b ∷ s) ≡ whitespace (b ∷ s)
+unfolding classOf outside
+at-whitespace i b s e =
+    let w = taken (isWhitespace b) 0 _ (search more) e in
+    let n = whitespace-alone b w in
+    let m = unmarked b Whitespace refl e in
+    rw (m .hash, m .slash, m .quote, m .brace, not-f b Whitespace refl e, n .0, n .1, w)
+
+pub at-control : (i b : ℕ) (s : List ℕ) → classOf b ≡ Control → outside i (b ∷ s) ≡ stop ControlByte 0 (run isControl (b ∷ s))
+unfolding classOf outside
+at-control i b s e =
+    let w = past (isWhitespace b) 0 _ Control refl e in
+    let c = taken (isControl b) 1 _ (search more) (w .1) in
+    let n = control-alone b c in
+    let m = unmarked b Control refl e in
+    rw (m .hash, m .slash, m .quote, m .brace, not-f b Control refl e, w .0, n .0, n .1, n .2, c)
+
+pub at-digit : (i b : ℕ) (s : List ℕ) → classOf b ≡ Digit → outside i (b ∷ s) ≡ number (b ∷ s)
+unfolding classOf outside
+at-digit i b s e =
+    let w = past (isWhitespace b) 0 _ Digit refl e in
+    let c = past (isControl b) 1 _ Digit refl (w .1) in
+    let d = taken (isDigit b) 2 _ (search more) (c .1) in
+    let m = unmarked b Digit refl e in
+    rw (m .hash, m .slash, m .quote, m .brace, not-f b Digit refl e, d)
+
+pub at-letter : (i b : ℕ) (s : List ℕ) → classOf b ≡ Letter → outside i (b ∷ s) ≡ lettered (b ∷ s)
+unfolding classOf outside lettered
+at-letter i b s e =
+    let w = past (isWhitespace b) 0 _ Letter refl e in
+    let c = past (isControl b) 1 _ Letter refl (w .1) in
+    let d = past (isDigit b) 2 _ Letter refl (c .1) in
+    let l = taken (isLetter b) 3 _ (search more) (d .1) in
+    let m = unmarked b Letter refl e in
+    rw (m .hash, m .slash, m .quote, m .brace, d .0, l)
+
+pub at-punctuation : (i b : ℕ) (s : List ℕ) → classOf b ≡ Punctuation → outside i (b ∷ s) ≡ punctuated i (b ∷ s)
+unfolding classOf outside punctuated
+at-punctuation i b s e =
+    let w = past (isWhitespace b) 0 _ Punctuation refl e in
+    let c = past (isControl b) 1 _ Punctuation refl (w .1) in
+    let d = past (isDigit b) 2 _ Punctuation refl (c .1) in
+    let l = past (isLetter b) 3 _ Punctuation refl (d .1) in
+    let p = taken (isPunctuation b) 4 _ refl (l .1) in
+    rw (not-f b Punctuation refl e, w .0, d .0, l .0, p)
+
+pub at-over-127 : (i b : ℕ) (s : List ℕ) → classOf b ≡ Over127 → outside i (b ∷ s) ≡ stop NotAscii 0 (run isOver127 (b ∷ s))
+unfolding classOf outside
+at-over-127 i b s e =
+    let w = past (isWhitespace b) 0 _ Over127 refl e in
+    let c = past (isControl b) 1 _ Over127 refl (w .1) in
+    let d = past (isDigit b) 2 _ Over127 refl (c .1) in
+    let l = past (isLetter b) 3 _ Over127 refl (d .1) in
+    let p = past (isPunctuation b) 4 _ Over127 refl (l .1) in
+    let m = unmarked b Over127 refl e in
+    rw (m .hash, m .slash, m .quote, m .brace, not-f b Over127 refl e, w .0, c .0, d .0, l .0, p .0)
+
+-- the class of a byte is one of the six
+pub six : (b : ℕ) (P : Type 0) → (classOf b ≡ Whitespace → P) → (classOf b ≡ Control → P) → (classOf b ≡ Digit → P) → (classOf b ≡ Letter → P) → (classOf b ≡ Punctuation → P) → (classOf b ≡ Over127 → P) → P
+unfolding classOf
+six b P w c d l p o =
+    decide (isWhitespace b) (λ e. w (rw e)) (λ e.
+    decide (isControl b) (λ f. c (rw (e, f))) (λ f.
+    decide (isDigit b) (λ g. d (rw (e, f, g))) (λ g.
+    decide (isLetter b) (λ h. l (rw (e, f, g, h))) (λ h.
+    decide (isPunctuation b) (λ j. p (rw (e, f, g, h, j))) (λ j. o (rw (e, f, g, h, j)))))))
+
+-- In a string: at `\`, at a quote, at any other byte
+pub in-escape : (quote : ℕ) (s : List ℕ) → begins "\\" s ≡ true → inside quote s ≡ escaped s
+unfolding inside escaped
+in-escape quote s e = rw e
+
+one-more : (n : ℕ) → 1 + n ≡ suc n
+one-more n = omega arith
+
+pub in-quote : (quote : ℕ) (s : List ℕ) → begins "\"" s ≡ true → inside quote s ≡ cond (isTriple quote) (cond (begins "\"\"\"" s) (found QuoteClose 3) (found StringInner (1 + run (isInner quote) (drop 1 s)))) (found QuoteClose 1)
+unfolding inside closesQuote
+in-quote quote [] e = absurd (false≢true e)
+in-quote quote (b ∷ s) e =
+    rw (is-of "\"" b (rw and-true at e), one-more)
+    (decide (isTriple quote) (λ t. rw (t, and-false)) (λ t. rw t))
+
+pub in-other : (quote : ℕ) (s : List ℕ) → begins "\\" s ≡ false → begins "\"" s ≡ false → inside quote s ≡ cond (isFormat quote && begins "{" s) (found HoleOpen 1) (found StringInner (1 + run (isInner quote) (drop 1 s)))
+unfolding inside closesQuote
+in-other quote [] e f = rw cond-same
+in-other quote (b ∷ s) e f =
+    let t : is "\\" b ≡ false = rw and-true at e in
+    let u : is "\"" b ≡ false = rw and-true at f in
+    rw (t, u, one-more, cond-same)
+
+-- Decimals in three parts, each counted from where it stands
+abbrev pub moved : ℕ → Step → Step
+moved n (found k m) = found k (n + m)
+moved n (stop number from m) = stop number (n + from) m
+
+moved-cond : (n : ℕ) (t : Bool) (x y : Step) → moved n (cond t x y) ≡ cond t (moved n x) (moved n y)
+moved-cond n true x y = refl
+moved-cond n false x y = refl
+
+moved-moved : (n m : ℕ) (r : Step) → moved n (moved m r) ≡ moved (n + m) r
+moved-moved n m (found k l) = simp add-assoc
+moved-moved n m (stop number from l) = simp add-assoc
+
+pub exponent-moved : (n : ℕ) (s : List ℕ) → exponent n s ≡ moved n (exponent 0 s)
+unfolding exponent
+exponent-moved n s = simp (moved-cond, add-zero, zero-add, add-assoc)
+
+-- an exponent after a fraction that was found, so many bytes long; a fraction's refusal stays
+abbrev pub thenExponent : List ℕ → Step → Step
+thenExponent s (found k m) = moved m (exponent 0 (drop m s))
+thenExponent s (stop number from m) = stop number from m
+
+then-cond : (s : List ℕ) (t : Bool) (x y : Step) → thenExponent s (cond t x y) ≡ cond t (thenExponent s x) (thenExponent s y)
+then-cond s true x y = refl
+then-cond s false x y = refl
+
+fraction-parts : (n : ℕ) (s : List ℕ) → fraction n s ≡ moved n (thenExponent s (fractionAlone s))
+unfolding fraction fractionAlone
+fraction-parts n s = simp (then-cond, moved-cond, moved-moved, one-more, add-zero) (simp (← exponent-moved))
+
+pub decimal-parts : (s : List ℕ) → decimal s ≡ moved (intLength s) (thenExponent (drop (intLength s) s) (fractionAlone (drop (intLength s) s)))
+unfolding decimal
+decimal-parts s = fraction-parts (intLength s) (drop (intLength s) s)

@@ -1,0 +1,11 @@
+-- the step by the class of the first byte; the modules' own laws
+pub mod ByClass
+pub mod Identifier
+pub mod Numbers
+pub mod Punctuation
+pub mod Quoted
+pub mod Steps
+-- the loop
+pub mod Parts
+pub mod Standing
+pub mod Loop

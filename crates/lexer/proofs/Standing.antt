@@ -1,0 +1,561 @@
+-- Where the loop stands: the steps that are behind it, what they have listed, counted and opened, and that the whole call's trace is these steps and the
+-- trace of the text that is left, in the memory that is left.
+use Prim.Native.Nat.{ℕ, suc, pred, _+_, _-_, _*_, _≤_, _<_, _^_, max}
+use mathlib.Core.Path.{_≡_, refl, sym, ap, _∙_}
+use mathlib.Core.List.{List, [], _∷_, _++_, map, append-nil}
+use mathlib.Core.Bool.{Bool, true, false, cond, not, _&&_, false≢true}
+use native.Mathlib.Omega.{arith}
+use lib.Dec.{leb, eqb}
+use lib.ListN.{take, drop, length, set, getD, length-append, length-drop, length-set, length-take, length-map}
+use lib.Seq.{drop-drop, drop-set-lt}
+use borrow.Author.Tests.{leb-true, leb-false, eqb-true, eq-eqb, ne-eqb}
+use mathlib.Core.Option.{none, some}
+use Rattle.rules.specs.Text.{keep, all}
+use Rattle.rules.specs.Utf8.{firstBad}
+use Rattle.rules.specs.Refusals.{AnotherDue, UnclosedFormat, StackFull, ListFull}
+use Rattle.rules.specs.Spans.{span, low, high, spanOf}
+use Rattle.rules.specs.Kinds.{Nothing, between, isSpace, isOpener, isCloser}
+use Rattle.rules.specs.Step.{found, stop, step}
+use Rattle.rules.specs.Lexing.{Piece, piece, End, stopped, Trace, noteOf, verdictOf, lexedOf, listing, lexing, ends, after, openAfter, codesAfter, innermost, atEnd, traceFrom, depthAfter, roomAfter, traceIn, lexemesOf, spacesOf, joined, deepestFrom, Lexeme, lexeme, placed, listedOf, openOf, placesOf, kindsWith, wordsWith}
+use Rattle.rules.proofs.Trace.{joined-append, placed-append, listed-kept, open-append, open-codes, open-length, deepest-snoc, trace-found, trace-stopped, trace-ended, trace-good, within, within-ends, within-after, within-full-stack, within-full-list, behind, behind-after, behind-ends, kinds-snoc, words-snoc, kinds-length, words-length, OnStack, stack-push, stack-pop, stack-top-kind, untouched-more}
+use Rattle.rules.proofs.Text.{decide, keep-append}
+use Rattle.rules.proofs.Spans.{span-of-words}
+use Rattle.lexer.specs.Cursor.{start, advanceOf, fullOf}
+use Rattle.lexer.specs.declared.Cursor.{Cursor}
+
+-- General: what is kept of a list is no longer than the list
+keep-length : {A : Type 0} (p : A → Bool) (xs : List A) → length (keep p xs) ≤ length xs
+keep-length p [] = omega arith
+keep-length p (x ∷ xs) =
+    let more : length (keep p xs) ≤ length xs = keep-length p xs in
+    decide (p x) (λ e. rw e (omega arith)) (λ e. rw e (omega arith))
+
+-- one element more, by whether it is kept
+keep-more : {A : Type 0} (p : A → Bool) (xs : List A) (x : A) → p x ≡ true → keep p (xs ++ (x ∷ [])) ≡ keep p xs ++ (x ∷ [])
+keep-more p xs x e = rw (keep-append p xs (x ∷ []), e)
+
+keep-same : {A : Type 0} (p : A → Bool) (xs : List A) (x : A) → p x ≡ false → keep p (xs ++ (x ∷ [])) ≡ keep p xs
+keep-same p xs x e = rw (keep-append p xs (x ∷ []), e) (append-nil (keep p xs))
+
+-- every code but the first passes a test where every code does
+all-drop-one : (p : ℕ → Bool) (xs : List ℕ) → all p xs ≡ true → all p (drop 1 xs) ≡ true
+all-drop-one p [] a = refl
+all-drop-one p (x ∷ xs) a = decide (p x) (λ e. rw e at a) (λ e. absurd (false≢true (rw e at a)))
+
+-- nothing is left of a number after another one exactly where it is no larger
+none-left : (m n : ℕ) → leb m n ≡ eqb (m - n) 0
+none-left m n =
+    decide (leb m n)
+    (λ e. e ∙ sym (eq-eqb (m - n) 0 (omega (arith, leb-true m n e))))
+    (λ e. let some-left : n < m = leb-false m n e in e ∙ sym (ne-eqb (m - n) 0 (omega arith)))
+
+-- two tests that both fail
+neither : (a b : Bool) (m n : ℕ) → cond a (suc m) (cond b (suc n) 0) ≡ 0 → (a ≡ false) × (b ≡ false)
+neither true b m n e = absurd (omega arith)
+neither false true m n e = absurd (omega arith)
+neither false false m n e = (refl, refl)
+
+and-second : (a b : Bool) → a && b ≡ false → a ≡ true → b ≡ false
+and-second true b e t = e
+and-second false b e t = absurd (false≢true t)
+
+-- a Space opens and closes nothing
+space-opens : (k : ℕ) → isSpace k ≡ true → isOpener k ≡ false
+unfolding isOpener
+space-opens k e = rw (eqb-true k 0 e)
+
+space-closes : (k : ℕ) → isSpace k ≡ true → isCloser k ≡ false
+unfolding isCloser
+space-closes k e = rw (eqb-true k 0 e)
+
+-- how many are open after one more lexeme: one more after an opener, one fewer after a closer, as many after another
+depth-opens : (d k : ℕ) → isOpener k ≡ true → depthAfter d k ≡ suc d
+depth-opens d k e = rw e
+
+depth-closes : (d k : ℕ) → isOpener k ≡ false → isCloser k ≡ true → depthAfter d k ≡ pred d
+depth-closes d k e f = rw (e, f)
+
+depth-stays : (d k : ℕ) → isOpener k ≡ false → isCloser k ≡ false → depthAfter d k ≡ d
+depth-stays d k e f = rw (e, f)
+
+space-depth : (d k : ℕ) → isSpace k ≡ true → depthAfter d k ≡ d
+space-depth d k e = depth-stays d k (space-opens k e) (space-closes k e)
+
+-- one more is open only after an opener
+depth-rest : (d k : ℕ) → isOpener k ≡ false → depthAfter d k ≤ d
+depth-rest d k e = decide (isCloser k) (λ f. omega (arith, depth-closes d k e f)) (λ f. omega (arith, depth-stays d k e f))
+
+depth-one : (d k : ℕ) → depthAfter d k ≤ suc d
+depth-one d k = decide (isOpener k) (λ e. omega (arith, depth-opens d k e)) (λ e. omega (arith, depth-rest d k e))
+
+-- the codes of what is open are openers' after one more lexeme too
+openers-after : (os : List ℕ) (k : ℕ) → all isOpener os ≡ true → all isOpener (codesAfter os k) ≡ true
+unfolding openAfter
+openers-after os k a =
+    decide (isOpener k) (λ e. rw e (rw e a))
+    (λ e. rw e (decide (isCloser k) (λ f. rw f (all-drop-one isOpener os a)) (λ f. rw f a)))
+
+-- the openers that are open after some steps, and their codes
+abbrev pub opened : (doc : ℕ) → List Piece → List Lexeme
+opened doc past = openOf [] (placed doc 0 past)
+
+abbrev pub codes : (doc : ℕ) → List Piece → List ℕ
+codes doc past = map (λ l. l .kind) (opened doc past)
+
+-- one step more, with its span
+abbrev last : (doc : ℕ) → List Piece → Piece → Lexeme
+last doc past p = lexeme (p .kind) (span doc (length (joined past)) (length (joined past) + length (p .bytes)))
+
+joined-snoc : (past : List Piece) (p : Piece) → length (joined (past ++ (p ∷ []))) ≡ length (joined past) + length (p .bytes)
+joined-snoc past p = rw (joined-append past (p ∷ []), append-nil (p .bytes)) (length-append (joined past) (p .bytes))
+
+placed-snoc : (doc : ℕ) (past : List Piece) (p : Piece) → placed doc 0 (past ++ (p ∷ [])) ≡ placed doc 0 past ++ (last doc past p ∷ [])
+placed-snoc doc past p =
+    let here : 0 + length (joined past) ≡ length (joined past) = omega arith in
+    rw here at (placed-append doc 0 past (p ∷ []))
+
+opened-snoc : (doc : ℕ) (past : List Piece) (p : Piece) → opened doc (past ++ (p ∷ [])) ≡ openAfter (λ x. x .kind) (opened doc past) (last doc past p)
+opened-snoc doc past p = rw (placed-snoc doc past p) (open-append [] (placed doc 0 past) (last doc past p ∷ []))
+
+depth-snoc : (doc : ℕ) (past : List Piece) (p : Piece) → length (opened doc (past ++ (p ∷ []))) ≡ depthAfter (length (opened doc past)) (p .kind)
+depth-snoc doc past p = rw (opened-snoc doc past p) (open-length (λ x. x .kind) (opened doc past) (last doc past p))
+
+codes-snoc : (doc : ℕ) (past : List Piece) (p : Piece) → codes doc (past ++ (p ∷ [])) ≡ codesAfter (codes doc past) (p .kind)
+codes-snoc doc past p = rw (opened-snoc doc past p) (open-codes (opened doc past) (last doc past p))
+
+-- no more is open than the deepest
+open-deepest : (doc at : ℕ) (os : List Lexeme) (ps : List Piece) → length (openOf os (placed doc at ps)) ≤ deepestFrom (length os) ps
+open-deepest doc at os [] = omega arith
+open-deepest doc at os (p ∷ ps) =
+    let next : ℕ = at + length (p .bytes) in
+    let l : Lexeme = lexeme (p .kind) (span doc at next) in
+    let os₁ : List Lexeme = openAfter (λ x. x .kind) os l in
+    let depth : length os₁ ≡ depthAfter (length os) (p .kind) = open-length (λ x. x .kind) os l in
+    omega (arith, rw depth at (open-deepest doc next os₁ ps))
+
+-- each step opens at most one
+open-steps : (doc at : ℕ) (os : List Lexeme) (ps : List Piece) → length (openOf os (placed doc at ps)) ≤ length os + length ps
+open-steps doc at os [] = omega arith
+open-steps doc at os (p ∷ ps) =
+    let next : ℕ = at + length (p .bytes) in
+    let l : Lexeme = lexeme (p .kind) (span doc at next) in
+    let os₁ : List Lexeme = openAfter (λ x. x .kind) os l in
+    let depth : length os₁ ≡ depthAfter (length os) (p .kind) = open-length (λ x. x .kind) os l in
+    omega (arith, open-steps doc next os₁ ps, depth-one (length os) (p .kind))
+
+-- the bytes of lexemes and of Spaces are all bytes
+parts : (ps : List Piece) → length (joined (lexemesOf ps)) + length (joined (spacesOf ps)) ≡ length (joined ps)
+parts [] = refl
+parts (p ∷ ps) =
+    let more : length (joined (lexemesOf ps)) + length (joined (spacesOf ps)) ≡ length (joined ps) = parts ps in
+    decide (isSpace (p .kind))
+    (λ e. rw e (simp length-append (omega arith)))
+    (λ e. rw e (simp length-append (omega arith)))
+
+-- what is open, by whether there is any: its innermost, and the note
+none-open : {A : Type 0} (os : List A) → length os ≡ 0 → os ≡ []
+none-open [] e = refl
+none-open (o ∷ os) e = absurd (omega arith)
+
+innermost-opens : (os : List ℕ) → all isOpener os ≡ true → 0 < length os → isOpener (innermost os) ≡ true
+innermost-opens [] a some-open = absurd (omega arith)
+innermost-opens (k ∷ os) a some-open = decide (isOpener k) (λ e. e) (λ e. absurd (false≢true (rw e at a)))
+
+note-top : (number : ℕ) (os : List Lexeme) (ks ws : List ℕ) → OnStack os ks ws → 0 < length os → between AnotherDue UnclosedFormat number ≡ true →
+    noteOf number os ≡ some (spanOf (getD ws ((length os - 1) * 2) 0) (getD ws ((length os - 1) * 2 + 1) 0))
+note-top number [] ks ws on some-open b = absurd (omega arith)
+note-top number (o ∷ os) ks ws on some-open b =
+    let n : suc (length os) - 1 ≡ length os = omega arith in
+    rw (n, b, on .1)
+
+note-without : (number : ℕ) (os : List Lexeme) → between AnotherDue UnclosedFormat number ≡ false → noteOf number os ≡ none
+note-without number [] b = refl
+note-without number (o ∷ os) b = rw b
+
+-- the counts of some steps
+pub record Counted (doc : ℕ) (past : List Piece) (c : Cursor) : Type 0 where
+  pub at : c .at ≡ length (joined past)
+  pub depth : c .depth ≡ length (opened doc past)
+  pub lexemes : c .lexemes ≡ length (lexemesOf past)
+  pub steps : c .steps ≡ length past
+  pub kept : c .kept ≡ length (joined (lexemesOf past))
+  pub dropped : c .dropped ≡ length (joined (spacesOf past))
+  pub deepest : c .deepest ≡ deepestFrom 0 past
+
+-- one step more, which ends at `e`
+pub counted-snoc : (doc : ℕ) (past : List Piece) (p : Piece) (c : Cursor) (e : ℕ) → Counted doc past c → e ≡ c .at + length (p .bytes) → Counted doc (past ++ (p ∷ [])) (advanceOf c (p .kind) e)
+unfolding advanceOf
+counted-snoc doc past p c e h q =
+    let at₁ : e ≡ length (joined (past ++ (p ∷ []))) = omega (arith, joined-snoc past p, h .at) in
+    let bytes : e - c .at ≡ length (p .bytes) = omega arith in
+    let steps₁ : c .steps + 1 ≡ length (past ++ (p ∷ [])) = omega (arith, length-append past (p ∷ []), h .steps) in
+    let depth₁ : depthAfter (c .depth) (p .kind) ≡ length (opened doc (past ++ (p ∷ []))) = rw (h .depth) (sym (depth-snoc doc past p)) in
+    let deepest₁ : deepestFrom 0 (past ++ (p ∷ [])) ≡ max (c .deepest) (depthAfter (c .depth) (p .kind)) =
+    rw (h .depth, h .deepest) (deepest-snoc doc 0 [] past p) in
+    decide (isSpace (p .kind))
+    (λ b. rw (advanceOf, b)
+    (record {
+      at = at₁;
+      depth = sym (space-depth (c .depth) (p .kind) b) ∙ depth₁;
+      lexemes = rw (keep-same (λ x. not (isSpace (x .kind))) past p (ap not b)) (h .lexemes);
+      steps = steps₁;
+      kept = rw (keep-same (λ x. not (isSpace (x .kind))) past p (ap not b)) (h .kept);
+      dropped = rw (keep-more (λ x. isSpace (x .kind)) past p b, joined-snoc (spacesOf past) p, bytes, h .dropped);
+      deepest = omega (arith, deepest₁, space-depth (c .depth) (p .kind) b, open-deepest doc 0 [] past, h .depth, h .deepest);
+    }))
+    (λ b. rw (advanceOf, b)
+    (record {
+      at = at₁;
+      depth = depth₁;
+      lexemes = rw (keep-more (λ x. not (isSpace (x .kind))) past p (ap not b), length-append (lexemesOf past) (p ∷ []), h .lexemes);
+      steps = steps₁;
+      kept = rw (keep-more (λ x. not (isSpace (x .kind))) past p (ap not b), joined-snoc (lexemesOf past) p, bytes, h .kept);
+      dropped = rw (keep-same (λ x. isSpace (x .kind)) past p b) (h .dropped);
+      deepest = sym deepest₁;
+    }))
+
+-- the arrays after a lexeme that was found: the list has it unless it is a Space, the stack if it opens
+abbrev pub kindsAfter : Cursor → (kind : ℕ) → List ℕ → List ℕ
+kindsAfter c k ks = cond (isSpace k) ks (set ks (c .lexemes) k)
+
+abbrev pub wordsAfter : Cursor → (kind low high : ℕ) → List ℕ → List ℕ
+wordsAfter c k l h ws = cond (isSpace k) ws (set (set ws (c .lexemes * 2) l) (c .lexemes * 2 + 1) h)
+
+abbrev pub stackKindsAfter : Cursor → (kind : ℕ) → List ℕ → List ℕ
+stackKindsAfter c k sk = cond (isOpener k) (set sk (c .depth) k) sk
+
+abbrev pub stackWordsAfter : Cursor → (kind low high : ℕ) → List ℕ → List ℕ
+stackWordsAfter c k l h sw = cond (isOpener k) (set (set sw (c .depth * 2) l) (c .depth * 2 + 1) h) sw
+
+-- the cursor after a lexeme that ends at `e`
+record Advanced (c : Cursor) (k e : ℕ) (d : Cursor) : Type 0 where
+  at : d .at ≡ e
+  depth : d .depth ≡ depthAfter (c .depth) k
+  steps : d .steps ≡ c .steps + 1
+  deepest : d .deepest ≡ max (c .deepest) (depthAfter (c .depth) k)
+
+advanced : (c : Cursor) (k e : ℕ) → c .depth ≤ c .deepest → Advanced c k e (advanceOf c k e)
+unfolding advanceOf
+advanced c k e h =
+    decide (isSpace k)
+    (λ b. rw (advanceOf, b) (record { at = refl; depth = sym (space-depth (c .depth) k b); steps = refl; deepest = omega (arith, space-depth (c .depth) k b) }))
+    (λ b. rw (advanceOf, b) (record { at = refl; depth = refl; steps = refl; deepest = refl }))
+
+lexemes-same : (c : Cursor) (k e : ℕ) → isSpace k ≡ true → advanceOf c k e .lexemes ≡ c .lexemes
+unfolding advanceOf
+lexemes-same c k e b = rw b
+
+lexemes-more : (c : Cursor) (k e : ℕ) → isSpace k ≡ false → advanceOf c k e .lexemes ≡ c .lexemes + 1
+unfolding advanceOf
+lexemes-more c k e b = rw b
+
+room-after : (places : ℕ) (c : Cursor) (k e : ℕ) → roomAfter (places - c .lexemes) k ≡ places - advanceOf c k e .lexemes
+room-after places c k e =
+    let one-fewer : pred (places - c .lexemes) ≡ places - (c .lexemes + 1) = omega arith in
+    decide (isSpace k)
+    (λ b. rw (lexemes-same c k e b, b))
+    (λ b. rw (lexemes-more c k e b, b) one-fewer)
+
+-- the list after one step more, `o` with its span
+module _ (doc : ℕ) (past : List Piece) (p : Piece) (o : Lexeme) (here : last doc past p ≡ o) (c : Cursor) (many : c .lexemes ≡ length (listedOf (placed doc 0 past))) where
+  listed-same : isSpace (p .kind) ≡ true → listedOf (placed doc 0 (past ++ (p ∷ []))) ≡ listedOf (placed doc 0 past)
+  listed-same b = rw (placed-snoc doc past p) (keep-same (λ l. not (isSpace (l .kind))) (placed doc 0 past) (last doc past p) (ap not b))
+
+  listed-more : isSpace (p .kind) ≡ false → listedOf (placed doc 0 (past ++ (p ∷ []))) ≡ listedOf (placed doc 0 past) ++ (o ∷ [])
+  listed-more b = rw (placed-snoc doc past p, ← here) (keep-more (λ l. not (isSpace (l .kind))) (placed doc 0 past) (last doc past p) (ap not b))
+
+  kinds-after : (ks ks₀ : List ℕ) → ks ≡ kindsWith (listedOf (placed doc 0 past)) ks₀ → (isSpace (p .kind) ≡ false → c .lexemes < length ks₀) →
+      kindsAfter c (p .kind) ks ≡ kindsWith (listedOf (placed doc 0 (past ++ (p ∷ [])))) ks₀
+  kinds-after ks ks₀ same room =
+      let kind : p .kind ≡ o .kind = ap (λ (x : Lexeme). x .kind) here in
+      decide (isSpace (p .kind))
+      (λ b. rw (b, listed-same b) same)
+      (λ b. rw (b, listed-more b, same, many, kind) (sym (kinds-snoc (listedOf (placed doc 0 past)) o ks₀ (omega (arith, room b)))))
+
+  words-after : (l h : ℕ) (ws ws₀ : List ℕ) → l ≡ low (o .at) → h ≡ high (o .at) → ws ≡ wordsWith (listedOf (placed doc 0 past)) ws₀ →
+      (isSpace (p .kind) ≡ false → c .lexemes * 2 + 1 < length ws₀) →
+      wordsAfter c (p .kind) l h ws ≡ wordsWith (listedOf (placed doc 0 (past ++ (p ∷ [])))) ws₀
+  words-after l h ws ws₀ el eh same room =
+      decide (isSpace (p .kind))
+      (λ b. rw (b, listed-same b) same)
+      (λ b. rw (b, listed-more b, same, many, el, eh) (sym (words-snoc (listedOf (placed doc 0 past)) o ws₀ (omega (arith, room b)))))
+
+-- the stack after one lexeme more
+stack-after : (os : List Lexeme) (o : Lexeme) (sk sw : List ℕ) (l h : ℕ) → OnStack os sk sw → spanOf l h ≡ o .at →
+    (isOpener (o .kind) ≡ true → length os < length sk) → (isOpener (o .kind) ≡ true → length os * 2 + 1 < length sw) →
+    OnStack (openAfter (λ x. x .kind) os o) (cond (isOpener (o .kind)) (set sk (length os) (o .kind)) sk)
+    (cond (isOpener (o .kind)) (set (set sw (length os * 2) l) (length os * 2 + 1) h) sw)
+unfolding openAfter
+stack-after os o sk sw l h on e kinds words =
+    decide (isOpener (o .kind))
+    (λ b. rw b (stack-push os o sk sw l h on (kinds b) (words b) e))
+    (λ b. rw b (decide (isCloser (o .kind)) (λ f. rw f (stack-pop os sk sw on)) (λ f. rw f on)))
+
+-- past a place that is above what was written, nothing changed
+kinds-untouched : (b : Bool) (d e n k : ℕ) (sk sk₀ : List ℕ) → drop d sk ≡ drop d sk₀ → d ≤ e → (b ≡ true → n < e) → drop e (cond b (set sk n k) sk) ≡ drop e sk₀
+kinds-untouched true d e n k sk sk₀ same le below = drop-set-lt e sk n k (below refl) ∙ untouched-more d e sk sk₀ le same
+kinds-untouched false d e n k sk sk₀ same le below = untouched-more d e sk sk₀ le same
+
+words-untouched : (b : Bool) (d e n l h : ℕ) (sw sw₀ : List ℕ) → drop (d * 2) sw ≡ drop (d * 2) sw₀ → d ≤ e → (b ≡ true → n < e) →
+    drop (e * 2) (cond b (set (set sw (n * 2) l) (n * 2 + 1) h) sw) ≡ drop (e * 2) sw₀
+words-untouched true d e n l h sw sw₀ same le below =
+    let lt : n < e = below refl in
+    drop-set-lt (e * 2) (set sw (n * 2) l) (n * 2 + 1) h (omega arith) ∙ drop-set-lt (e * 2) sw (n * 2) l (omega arith)
+    ∙ untouched-more (d * 2) (e * 2) sw sw₀ (omega arith) same
+words-untouched false d e n l h sw sw₀ same le below = untouched-more (d * 2) (e * 2) sw sw₀ (omega arith) same
+
+kinds-as-long : (b : Bool) (n k : ℕ) (sk : List ℕ) → length (cond b (set sk n k) sk) ≡ length sk
+kinds-as-long true n k sk = length-set sk n k
+kinds-as-long false n k sk = refl
+
+words-as-long : (b : Bool) (n l h : ℕ) (sw : List ℕ) → length (cond b (set (set sw (n * 2) l) (n * 2 + 1) h) sw) ≡ length sw
+words-as-long true n l h sw = simp length-set
+words-as-long false n l h sw = refl
+
+module _ (doc : ℕ) (text ks₀ ws₀ sk₀ sw₀ : List ℕ) where
+  -- the places of the list and of the stack
+  abbrev pub places : ℕ
+  places = placesOf ks₀ ws₀
+
+  abbrev pub stack : ℕ
+  stack = placesOf sk₀ sw₀
+
+  pub record Standing (ks ws sk sw : List ℕ) (c : Cursor) : Type 0 where
+    pub small : length text < 2 ^ 48
+    pub id : doc < 2 ^ 32
+    pub past : List Piece
+    pub counted : Counted doc past c
+    pub inside : c .at ≤ length text
+    -- each step behind has a byte or more
+    pub moved : c .steps ≤ c .at
+    pub whole : traceIn places stack text ≡ behind past (within stack (c .depth) (places - c .lexemes) (traceFrom (codes doc past) 0 (drop (c .at) text)))
+    pub room : c .lexemes ≤ places
+    pub shallow : c .depth ≤ stack
+    pub deeper : c .depth ≤ c .deepest
+    pub deepest : c .deepest ≤ stack
+    pub openers : all isOpener (codes doc past) ≡ true
+    pub kinds : ks ≡ kindsWith (listedOf (placed doc 0 past)) ks₀
+    pub words : ws ≡ wordsWith (listedOf (placed doc 0 past)) ws₀
+    pub onStack : OnStack (opened doc past) sk sw
+    pub stackKinds : drop (c .deepest) sk ≡ drop (c .deepest) sk₀
+    pub stackWords : drop (c .deepest * 2) sw ≡ drop (c .deepest * 2) sw₀
+    pub stackKindsLength : length sk ≡ length sk₀
+    pub stackWordsLength : length sw ≡ length sw₀
+
+  -- before the first step
+  pub standing-start : doc < 2 ^ 32 → length text < 2 ^ 48 → firstBad text ≡ none → Standing ks₀ ws₀ sk₀ sw₀ start
+  unfolding traceIn
+  standing-start id small good =
+      let all-left : places - 0 ≡ places = omega arith in
+      record {
+        small = small;
+        id = id;
+        past = [];
+        counted = record { at = refl; depth = refl; lexemes = refl; steps = refl; kept = refl; dropped = refl; deepest = refl };
+        inside = omega arith;
+        moved = omega arith;
+        whole = rw (trace-good text (omega arith) good, all-left);
+        room = omega arith;
+        shallow = omega arith;
+        deeper = omega arith;
+        deepest = omega arith;
+        openers = refl;
+        kinds = refl;
+        words = refl;
+        onStack = tt;
+        stackKinds = refl;
+        stackWords = refl;
+        stackKindsLength = refl;
+        stackWordsLength = refl;
+      }
+
+module _ {doc : ℕ} {text ks₀ ws₀ sk₀ sw₀ ks ws sk sw : List ℕ} {c : Cursor} (s : Standing doc text ks₀ ws₀ sk₀ sw₀ ks ws sk sw c) where
+  -- what the code needs of the counts: none can overflow
+  pub record Bounds : Type 0 where
+    pub steps : c .steps ≤ c .at
+    pub lexemes : c .lexemes ≤ c .at
+    pub bytes : c .kept + c .dropped ≡ c .at
+    pub depth : c .depth ≤ c .at
+
+  pub bounds : Bounds
+  bounds =
+      record {
+        steps = s .moved;
+        lexemes = omega (arith, s .counted, s .moved, keep-length (λ p. not (isSpace (p .kind))) (s .past));
+        bytes = omega (arith, s .counted, parts (s .past));
+        depth = omega (arith, s .counted, s .moved, open-steps doc 0 [] (s .past));
+      }
+
+  -- the arrays are as long as they were, so the places lie inside them
+  pub list-kinds : length ks ≡ length ks₀
+  list-kinds = rw (s .kinds) (kinds-length (listedOf (placed doc 0 (s .past))) ks₀ (omega (arith, listed-kept doc 0 (s .past), s .counted .lexemes, s .room)))
+
+  pub list-words : length ws ≡ length ws₀
+  list-words = rw (s .words) (words-length (listedOf (placed doc 0 (s .past))) ws₀ (omega (arith, listed-kept doc 0 (s .past), s .counted .lexemes, s .room)))
+
+  -- the innermost opener, as the stack has it
+  pub top-code : (0 < c .depth) → getD sk (c .depth - 1) 0 ≡ innermost (codes doc (s .past))
+  top-code h = rw (s .counted .depth) (sym (stack-top-kind (opened doc (s .past)) sk sw (s .onStack) (omega (arith, s .counted .depth))))
+
+  pub top-none : c .depth ≡ 0 → innermost (codes doc (s .past)) ≡ Nothing
+  top-none h = ap (λ (os : List Lexeme). innermost (map (λ l. l .kind) os)) (none-open (opened doc (s .past)) (omega (arith, s .counted .depth)))
+
+  pub top-opener : (0 < c .depth) → isOpener (getD sk (c .depth - 1) 0) ≡ true
+  top-opener h = rw (top-code h) (innermost-opens (codes doc (s .past)) (s .openers) (omega (arith, s .counted .depth, length-map (opened doc (s .past)) (λ l. l .kind))))
+
+  -- the note of a refusal: the innermost opener's span, as the stack has it
+  pub note-some : (number : ℕ) → 0 < c .depth → between AnotherDue UnclosedFormat number ≡ true →
+      noteOf number (opened doc (s .past)) ≡ some (spanOf (getD sw ((c .depth - 1) * 2) 0) (getD sw ((c .depth - 1) * 2 + 1) 0))
+  note-some number h b = rw (s .counted .depth) (note-top number (opened doc (s .past)) sk sw (s .onStack) (omega (arith, s .counted .depth)) b)
+
+  pub note-none : (number : ℕ) → c .depth ≡ 0 → noteOf number (opened doc (s .past)) ≡ none
+  note-none number h = ap (noteOf number) (none-open (opened doc (s .past)) (omega (arith, s .counted .depth)))
+
+  pub note-other : (number : ℕ) → between AnotherDue UnclosedFormat number ≡ false → noteOf number (opened doc (s .past)) ≡ none
+  note-other number b = note-without number (opened doc (s .past)) b
+
+  -- the call's answer where it ends here
+  pub answer : (e : End) → traceIn (placesOf ks₀ ws₀) (placesOf sk₀ sw₀) text ≡ record { pieces = s .past; end = e } →
+      lexing doc (placesOf ks₀ ws₀) (placesOf sk₀ sw₀) text ≡
+      record { verdict = verdictOf doc (c .at) (opened doc (s .past)) e; lexemes = c .lexemes; steps = c .steps; kept = c .kept; dropped = c .dropped; deepest = c .deepest }
+  unfolding lexing lexedOf
+  answer e q =
+      let n : Counted doc (s .past) c = s .counted in
+      rw (q, n .at, n .lexemes, n .steps, n .kept, n .dropped, n .deepest)
+
+  pub listed : (e : End) → traceIn (placesOf ks₀ ws₀) (placesOf sk₀ sw₀) text ≡ record { pieces = s .past; end = e } →
+      listing doc (placesOf ks₀ ws₀) (placesOf sk₀ sw₀) text ≡ listedOf (placed doc 0 (s .past))
+  unfolding listing
+  listed e q = rw q
+
+  -- the trace of the text that is left
+  abbrev ahead : Trace
+  ahead = traceFrom (codes doc (s .past)) 0 (drop (c .at) text)
+
+  -- where the rest gives no further step, the call ends here
+  ends-here : (e : End) → within (placesOf sk₀ sw₀) (c .depth) (placesOf ks₀ ws₀ - c .lexemes) ahead ≡ ends e →
+      traceIn (placesOf ks₀ ws₀) (placesOf sk₀ sw₀) text ≡ record { pieces = s .past; end = e }
+  ends-here e q = s .whole ∙ ap (behind (s .past)) q ∙ behind-ends (s .past) e
+
+  -- at the text's end
+  pub standing-end : length text ≤ c .at → traceIn (placesOf ks₀ ws₀) (placesOf sk₀ sw₀) text ≡ record { pieces = s .past; end = atEnd (codes doc (s .past)) }
+  standing-end h =
+      ends-here (atEnd (codes doc (s .past)))
+      (rw (trace-ended (codes doc (s .past)) (drop (c .at) text) (omega (arith, length-drop (c .at) text)))
+      (within-ends (placesOf sk₀ sw₀) (c .depth) (placesOf ks₀ ws₀ - c .lexemes) (atEnd (codes doc (s .past)))))
+
+  module _ (h : c .at < length text) where
+    -- a step that the text refuses
+    pub standing-stop : (number from n : ℕ) → step (innermost (codes doc (s .past))) (drop (c .at) text) ≡ stop number from n →
+        traceIn (placesOf ks₀ ws₀) (placesOf sk₀ sw₀) text ≡ record { pieces = s .past; end = stopped number from n }
+    standing-stop number from n e =
+        ends-here (stopped number from n)
+        (rw (trace-stopped (codes doc (s .past)) (drop (c .at) text) number from n (omega (arith, length-drop (c .at) text)) e)
+        (within-ends (placesOf sk₀ sw₀) (c .depth) (placesOf ks₀ ws₀ - c .lexemes) (stopped number from n)))
+
+    module _ (k n : ℕ) (moves : 0 < n) (fits : c .at + n ≤ length text) (e : step (innermost (codes doc (s .past))) (drop (c .at) text) ≡ found k n) where
+      -- the step that was found, and the trace after it
+      abbrev now : Piece
+      now = piece k (take n (drop (c .at) text))
+
+      abbrev later : Trace
+      later = traceFrom (codesAfter (codes doc (s .past)) k) 0 (drop n (drop (c .at) text))
+
+      now-later : ahead ≡ after now later
+      now-later = trace-found (codes doc (s .past)) (drop (c .at) text) k n (omega (arith, length-drop (c .at) text)) moves e
+
+      now-length : length (now .bytes) ≡ n
+      now-length = omega (arith, length-take n (drop (c .at) text), length-drop (c .at) text)
+
+      -- a lexeme for which there is no room
+      full-stack : isOpener k && leb (placesOf sk₀ sw₀) (c .depth) ≡ true →
+          traceIn (placesOf ks₀ ws₀) (placesOf sk₀ sw₀) text ≡ record { pieces = s .past; end = stopped StackFull 0 n }
+      full-stack a =
+          ends-here (stopped StackFull 0 n)
+          (rw now-later (within-full-stack (placesOf sk₀ sw₀) (c .depth) (placesOf ks₀ ws₀ - c .lexemes) now later a ∙ rw now-length))
+
+      full-list : isOpener k && leb (placesOf sk₀ sw₀) (c .depth) ≡ false → not (isSpace k) && leb (placesOf ks₀ ws₀) (c .lexemes) ≡ true →
+          traceIn (placesOf ks₀ ws₀) (placesOf sk₀ sw₀) text ≡ record { pieces = s .past; end = stopped ListFull 0 n }
+      full-list a b =
+          let left : ℕ = placesOf ks₀ ws₀ - c .lexemes in
+          let spent : not (isSpace k) && eqb left 0 ≡ true = rw (none-left (placesOf ks₀ ws₀) (c .lexemes)) at b in
+          ends-here (stopped ListFull 0 n) (rw now-later (within-full-list (placesOf sk₀ sw₀) (c .depth) left now later a spent ∙ rw now-length))
+
+      pub standing-full : (number : ℕ) → fullOf (placesOf sk₀ sw₀) (placesOf ks₀ ws₀) c k ≡ number → (number ≡ 0 → ⊥) →
+          traceIn (placesOf ks₀ ws₀) (placesOf sk₀ sw₀) text ≡ record { pieces = s .past; end = stopped number 0 n }
+      unfolding fullOf
+      standing-full number f full =
+          decide (isOpener k && leb (placesOf sk₀ sw₀) (c .depth))
+          (λ a. let due : StackFull ≡ number = rw a at f in rw (← due) (full-stack a))
+          (λ a. decide (not (isSpace k) && leb (placesOf ks₀ ws₀) (c .lexemes))
+          (λ b. let due : ListFull ≡ number = rw (a, b) at f in rw (← due) (full-list a b))
+          (λ b. let due : 0 ≡ number = rw (a, b) at f in absurd (full (sym due))))
+
+      -- where there is room, neither the stack nor the list is full for it
+      has-room : fullOf (placesOf sk₀ sw₀) (placesOf ks₀ ws₀) c k ≡ 0 →
+          (isOpener k && leb (placesOf sk₀ sw₀) (c .depth) ≡ false) × (not (isSpace k) && leb (placesOf ks₀ ws₀) (c .lexemes) ≡ false)
+      unfolding fullOf
+      has-room f = neither (isOpener k && leb (placesOf sk₀ sw₀) (c .depth)) (not (isSpace k) && leb (placesOf ks₀ ws₀) (c .lexemes)) 29 30 f
+
+      -- room for a lexeme
+      pub room-list : fullOf (placesOf sk₀ sw₀) (placesOf ks₀ ws₀) c k ≡ 0 → isSpace k ≡ false → c .lexemes < placesOf ks₀ ws₀
+      room-list f b =
+          leb-false (placesOf ks₀ ws₀) (c .lexemes) (and-second (not (isSpace k)) (leb (placesOf ks₀ ws₀) (c .lexemes)) (has-room f .1) (ap not b))
+
+      pub room-stack : fullOf (placesOf sk₀ sw₀) (placesOf ks₀ ws₀) c k ≡ 0 → isOpener k ≡ true → c .depth < placesOf sk₀ sw₀
+      room-stack f b = leb-false (placesOf sk₀ sw₀) (c .depth) (and-second (isOpener k) (leb (placesOf sk₀ sw₀) (c .depth)) (has-room f .0) b)
+
+      -- the whole call's trace, with the step that was found among those behind
+      whole-on : fullOf (placesOf sk₀ sw₀) (placesOf ks₀ ws₀) c k ≡ 0 →
+          traceIn (placesOf ks₀ ws₀) (placesOf sk₀ sw₀) text ≡
+          behind (s .past ++ (now ∷ []))
+          (within (placesOf sk₀ sw₀) (advanceOf c k (c .at + n) .depth) (placesOf ks₀ ws₀ - advanceOf c k (c .at + n) .lexemes)
+          (traceFrom (codes doc (s .past ++ (now ∷ []))) 0 (drop (advanceOf c k (c .at + n) .at) text)))
+      whole-on f =
+          let stack : ℕ = placesOf sk₀ sw₀ in
+          let left : ℕ = placesOf ks₀ ws₀ - c .lexemes in
+          let m : Advanced c k (c .at + n) (advanceOf c k (c .at + n)) = advanced c k (c .at + n) (s .deeper) in
+          let listable : not (isSpace k) && eqb left 0 ≡ false = rw (none-left (placesOf ks₀ ws₀) (c .lexemes)) at (has-room f .1) in
+          s .whole ∙ ap (λ (t : Trace). behind (s .past) (within stack (c .depth) left t)) now-later
+          ∙ ap (behind (s .past)) (within-after stack (c .depth) left now later (has-room f .0) listable)
+          ∙ behind-after (s .past) now (within stack (depthAfter (c .depth) k) (roomAfter left k) later)
+          ∙ rw (m .depth, ← (room-after (placesOf ks₀ ws₀) c k (c .at + n)), codes-snoc doc (s .past) now, m .at, drop-drop n (c .at) text)
+
+      -- a lexeme for which there is room, whose span has these two words
+      pub standing-on : (l hi : ℕ) → fullOf (placesOf sk₀ sw₀) (placesOf ks₀ ws₀) c k ≡ 0 → l ≡ low (span doc (c .at) (c .at + n)) → hi ≡ high (span doc (c .at) (c .at + n)) →
+          Standing doc text ks₀ ws₀ sk₀ sw₀ (kindsAfter c k ks) (wordsAfter c k l hi ws) (stackKindsAfter c k sk) (stackWordsAfter c k l hi sw) (advanceOf c k (c .at + n))
+      standing-on l hi f el eh =
+          let c₁ : Cursor = advanceOf c k (c .at + n) in
+          let past₁ : List Piece = s .past ++ (now ∷ []) in
+          let o : Lexeme = lexeme k (span doc (c .at) (c .at + n)) in
+          let m : Advanced c k (c .at + n) c₁ = advanced c k (c .at + n) (s .deeper) in
+          let counted₁ : Counted doc past₁ c₁ = counted-snoc doc (s .past) now c (c .at + n) (s .counted) (omega (arith, now-length)) in
+          let here : last doc (s .past) now ≡ o = rw (now-length, ← (s .counted .at)) in
+          let many : c .lexemes ≡ length (listedOf (placed doc 0 (s .past))) = s .counted .lexemes ∙ sym (listed-kept doc 0 (s .past)) in
+          let depth₁ : depthAfter (c .depth) k ≤ placesOf sk₀ sw₀ =
+          decide (isOpener k) (λ b. omega (arith, depth-opens (c .depth) k b, room-stack f b)) (λ b. omega (arith, depth-rest (c .depth) k b, s .shallow)) in
+          let spans : spanOf l hi ≡ o .at = rw (el, eh) (span-of-words (o .at) (omega (arith, s .small)) (omega (arith, s .small))) in
+          let above : isOpener k ≡ true → c .depth < c₁ .deepest = λ b. omega (arith, depth-opens (c .depth) k b, m .deepest) in
+          record {
+            small = s .small;
+            id = s .id;
+            past = past₁;
+            counted = counted₁;
+            inside = omega (arith, m .at);
+            moved = omega (arith, m .at, m .steps, s .moved);
+            whole = whole-on f;
+            room = decide (isSpace k) (λ b. omega (arith, lexemes-same c k (c .at + n) b, s .room)) (λ b. omega (arith, lexemes-more c k (c .at + n) b, room-list f b));
+            shallow = omega (arith, m .depth, depth₁);
+            deeper = omega (arith, counted₁ .depth, counted₁ .deepest, open-deepest doc 0 [] past₁);
+            deepest = omega (arith, m .deepest, s .deepest, depth₁);
+            openers = rw (codes-snoc doc (s .past) now) (openers-after (codes doc (s .past)) k (s .openers));
+            kinds = kinds-after doc (s .past) now o here c many ks ks₀ (s .kinds) (λ b. omega (arith, room-list f b));
+            words = words-after doc (s .past) now o here c many l hi ws ws₀ el eh (s .words) (λ b. omega (arith, room-list f b));
+            onStack = rw (opened-snoc doc (s .past) now, here, s .counted .depth)
+                (stack-after (opened doc (s .past)) o sk sw l hi (s .onStack) spans (λ b. omega (arith, room-stack f b, s .counted .depth, s .stackKindsLength))
+                (λ b. omega (arith, room-stack f b, s .counted .depth, s .stackWordsLength)));
+            stackKinds = kinds-untouched (isOpener k) (c .deepest) (c₁ .deepest) (c .depth) k sk sk₀ (s .stackKinds) (omega (arith, m .deepest)) above;
+            stackWords = words-untouched (isOpener k) (c .deepest) (c₁ .deepest) (c .depth) l hi sw sw₀ (s .stackWords) (omega (arith, m .deepest)) above;
+            stackKindsLength = kinds-as-long (isOpener k) (c .depth) k sk ∙ s .stackKindsLength;
+            stackWordsLength = words-as-long (isOpener k) (c .depth) l hi sw ∙ s .stackWordsLength;
+          }

@@ -1,0 +1,53 @@
+-- Two quotes more by the bytes there.
+use Rattle.lexer.proofs.Steps.{quotes-at}
+use Rattle.token.specs.Codes.{codeOf}
+use borrow.Author.Needs.{needs}
+use Rattle.lexer.proofs.next.open_format.Statement.{statement}
+use Rattle.lexer.proofs.next.open_format.Tie as tie
+
+add-byte-at : tie.Need-add-byte-at
+add-byte-at c = search needs
+
+byte-at-requires : tie.Need-byte-at-requires
+byte-at-requires c κs = search needs
+
+add-byte-at-2 : tie.Need-add-byte-at-2
+add-byte-at-2 c = search needs
+
+byte-at-requires-2 : tie.Need-byte-at-requires-2
+byte-at-requires-2 c κs = search needs
+
+add-found : tie.Need-add-found
+add-found c = search needs
+
+found-requires : tie.Need-found-requires
+found-requires c κs = search needs
+
+returns : tie.Need-returns
+unfolding codeOf
+returns c = rw (quotes-at (c .before .before .before .before .before .args .text .now) (c .before .before .before .before .before .args .at), ← (c .before .before .before .byte-at .ensures), ← (c .before .before .byte-at2 .ensures), c .before .if1 .taken) (c .found .ensures)
+
+add-found-2 : tie.Need-add-found-2
+add-found-2 c = search needs
+
+found-requires-2 : tie.Need-found-requires-2
+found-requires-2 c κs = search needs
+
+returns-2 : tie.Need-returns-2
+unfolding codeOf
+returns-2 c = rw (quotes-at (c .before .before .before .before .before .args .text .now) (c .before .before .before .before .before .args .at), ← (c .before .before .before .byte-at .ensures), ← (c .before .before .byte-at2 .ensures), c .before .if1 .left) (c .found2 .ensures)
+
+pub open-format-spec : {M : Type 1} → statement M
+open-format-spec =
+    tie.close
+    (tie.spec
+    add-byte-at
+    byte-at-requires
+    add-byte-at-2
+    byte-at-requires-2
+    add-found
+    found-requires
+    returns
+    add-found-2
+    found-requires-2
+    returns-2)

@@ -1,0 +1,26 @@
+-- The branches decide the tests; a quoted `.` at a position is the byte there.
+use Prim.Native.Char.{code}
+use mathlib.Core.Path.{refl}
+use borrow.Author.Tests.{eq-eqb, ne-eqb}
+use borrow.Author.Needs.{needs}
+use Rattle.rules.proofs.Runs.{begins-at}
+use Rattle.token.specs.Codes.{codeOf}
+use Rattle.lexer.proofs.punct.dots.Statement.{statement}
+use Rattle.lexer.proofs.punct.dots.Tie as tie
+
+pub dots-spec : {M : Type 1} → statement M
+unfolding codeOf
+dots-spec =
+    tie.close
+    (tie.spec
+    (λ c. search needs)
+    (λ c κs. search needs)
+    (λ c. rw (c .found .ensures, ne-eqb _ (code ".") (c .before .if1 .taken)) refl)
+    (λ c. search needs)
+    (λ c κs. search needs)
+    (λ c. search needs)
+    (λ c κs. search needs)
+    (λ c. rw (c .found2 .ensures, begins-at "." _ _ refl, ← c .before .before .byte-at .ensures, eq-eqb _ (code ".") (c .before .before .before .if1 .left), eq-eqb _ (code ".") (c .before .if2 .taken)) refl)
+    (λ c. search needs)
+    (λ c κs. search needs)
+    (λ c. rw (c .found3 .ensures, begins-at "." _ _ refl, ← c .before .before .byte-at .ensures, eq-eqb _ (code ".") (c .before .before .before .if1 .left), ne-eqb _ (code ".") (c .before .if2 .left)) refl))

@@ -1,0 +1,24 @@
+-- Two quotes at a position are the bytes there and after it.
+use mathlib.Core.Path.{refl}
+use native.Mathlib.Nat.{add-assoc}
+use borrow.Author.Needs.{needs}
+use Rattle.rules.proofs.Runs.{begins-more, begins-at}
+use Rattle.token.specs.Codes.{codeOf}
+use Rattle.lexer.proofs.punct.open_quote.Statement.{statement}
+use Rattle.lexer.proofs.punct.open_quote.Tie as tie
+
+pub open-quote-spec : {M : Type 1} → statement M
+unfolding codeOf
+open-quote-spec =
+    tie.close
+    (tie.spec
+    (λ c. search needs)
+    (λ c κs. search needs)
+    (λ c. search needs)
+    (λ c κs. search needs)
+    (λ c. search needs)
+    (λ c κs. search needs)
+    (λ c. rw (c .found .ensures, begins-more "\"" "\"" _ _ refl, begins-at "\"" _ _ refl, add-assoc _ 1 1, ← c .before .before .byte-at2 .ensures, ← c .before .before .before .byte-at .ensures, c .before .if1 .taken) refl)
+    (λ c. search needs)
+    (λ c κs. search needs)
+    (λ c. rw (c .found2 .ensures, begins-more "\"" "\"" _ _ refl, begins-at "\"" _ _ refl, add-assoc _ 1 1, ← c .before .before .byte-at2 .ensures, ← c .before .before .before .byte-at .ensures, c .before .if1 .left) refl))

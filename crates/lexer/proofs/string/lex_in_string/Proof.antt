@@ -1,0 +1,77 @@
+-- The byte here tells the cases apart; each is a law of `Quoted`.
+use mathlib.Core.Path.{refl}
+use native.Mathlib.Omega.{arith}
+use Rattle.rules.proofs.Runs.{begins-is}
+use Rattle.token.specs.Codes.{codeOf}
+use Rattle.lexer.proofs.Quoted.{quote-le, quoted-escape, string-close, string-hole, string-inner}
+use borrow.Author.Needs.{needs}
+use Rattle.lexer.proofs.string.lex_in_string.Statement.{statement}
+use Rattle.lexer.proofs.string.lex_in_string.Tie as tie
+
+shared-slice-read-a : tie.Need-shared-slice-read-a
+shared-slice-read-a c = search needs
+
+lex-in-escape-requires : tie.Need-lex-in-escape-requires
+lex-in-escape-requires c κs = (c .before .before .before .pre, begins-is "\\" (c .before .before .before .args .text .now) (c .before .before .before .args .at) refl (c .if1 .taken))
+
+returns : tie.Need-returns
+returns c = rw (c .lex-in-escape .ensures) (quoted-escape (c .before .before .before .before .args .text .now) (c .before .before .before .before .args .at) (c .before .before .before .before .args .stop) (c .before .before .before .before .args .triple) (c .before .if1 .taken))
+
+closes-requires : tie.Need-closes-requires
+closes-requires c κs = search needs
+
+quote-length-requires : tie.Need-quote-length-requires
+quote-length-requires c κs = search needs
+
+add-found : tie.Need-add-found
+add-found c = omega (arith, quote-le (c .before .before .before .before .before .before .args .triple), c .quote-length .ensures)
+
+found-requires : tie.Need-found-requires
+found-requires c κs = search needs
+
+returns-2 : tie.Need-returns-2
+unfolding codeOf
+returns-2 c = rw (c .found .ensures, c .before .quote-length .ensures) (string-close (c .before .before .before .before .before .before .before .args .text .now) (c .before .before .before .before .before .before .before .args .at) (c .before .before .before .before .before .before .before .args .stop) (c .before .before .before .before .before .before .before .args .triple) (rw (c .before .before .before .closes .ensures) at (c .before .before .if2 .taken)))
+
+add-found-2 : tie.Need-add-found-2
+add-found-2 c = search needs
+
+found-requires-2 : tie.Need-found-requires-2
+found-requires-2 c κs = search needs
+
+returns-3 : tie.Need-returns-3
+unfolding codeOf
+returns-3 c = rw (c .found2 .ensures) (string-hole (c .before .before .before .before .before .before .before .args .text .now) (c .before .before .before .before .before .before .before .args .at) (c .before .before .before .before .before .before .before .args .stop) (c .before .before .before .before .before .before .before .args .triple) (c .before .before .before .before .if1 .left) (c .before .if3 .taken))
+
+add-inner-end : tie.Need-add-inner-end
+add-inner-end c = search needs
+
+inner-end-requires : tie.Need-inner-end-requires
+inner-end-requires c κs = search needs
+
+found-requires-3 : tie.Need-found-requires-3
+found-requires-3 c κs = search needs
+
+returns-4 : tie.Need-returns-4
+unfolding codeOf
+returns-4 c = rw (c .found3 .ensures, c .before .inner-end .ensures) (string-inner (c .before .before .before .before .before .before .before .before .args .text .now) (c .before .before .before .before .before .before .before .before .args .at) (c .before .before .before .before .before .before .before .before .args .stop) (c .before .before .before .before .before .before .before .before .args .triple) (c .before .before .before .before .before .if1 .left) (rw (c .before .before .before .before .closes .ensures) at (c .before .before .before .if2 .left)) (c .before .before .if3 .left))
+
+pub lex-in-string-spec : {M : Type 1} → statement M
+lex-in-string-spec =
+    tie.close
+    (tie.spec
+    shared-slice-read-a
+    lex-in-escape-requires
+    returns
+    closes-requires
+    quote-length-requires
+    add-found
+    found-requires
+    returns-2
+    add-found-2
+    found-requires-2
+    returns-3
+    add-inner-end
+    inner-end-requires
+    found-requires-3
+    returns-4)

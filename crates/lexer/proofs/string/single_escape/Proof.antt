@@ -1,0 +1,45 @@
+-- The byte after `\` tells the cases apart.
+use native.Mathlib.Omega.{arith}
+use mathlib.Core.Path.{_∙_}
+use denote.Ref.{now}
+use borrow.Author.Needs.{needs}
+use Rattle.token.specs.Codes.{codeOf}
+use Rattle.scan.specs.Classes.{passes}
+use Rattle.lexer.proofs.Quoted.{single-end, single-line, single-over, single-one}
+use Rattle.lexer.proofs.string.single_escape.Statement.{statement}
+use Rattle.lexer.proofs.string.single_escape.Tie as tie
+
+returns : tie.Need-returns
+returns c = c .refused .ensures ∙ single-end _ _ (omega arith) (omega arith) (c .before .before .before .pre .1)
+
+returns-2 : tie.Need-returns-2
+returns-2 c = c .refused2 .ensures ∙ single-line (now (c .before .before .before .before .before .args .text)) (c .before .before .before .before .before .args .at) (omega arith) (c .before .if2 .taken)
+
+returns-3 : tie.Need-returns-3
+unfolding passes
+returns-3 c = c .refused3 .ensures ∙ rw (c .before .run-end .ensures) (single-over (now (c .before .before .before .before .before .before .before .args .text)) (c .before .before .before .before .before .before .before .args .at) (omega arith) (c .before .before .before .if2 .left) (omega arith))
+
+returns-4 : tie.Need-returns-4
+unfolding codeOf
+returns-4 c = c .found .ensures ∙ single-one (now (c .before .before .before .before .before .before .args .text)) (c .before .before .before .before .before .before .args .at) (omega arith) (c .before .before .if2 .left) (omega arith)
+
+pub single-escape-spec : {M : Type 1} → statement M
+single-escape-spec =
+    tie.close
+    (tie.spec
+    (λ c. search needs)
+    (λ c. search needs)
+    (λ c κs. search needs)
+    returns
+    (λ c. search needs)
+    (λ c. search needs)
+    (λ c. search needs)
+    (λ c κs. search needs)
+    returns-2
+    (λ c. search needs)
+    (λ c κs. search needs)
+    (λ c κs. search needs)
+    returns-3
+    (λ c. search needs)
+    (λ c κs. search needs)
+    returns-4)

@@ -1,0 +1,30 @@
+-- The hex digits end at `end`: four are there, or fewer.
+use native.Mathlib.Omega.{arith}
+use mathlib.Core.Path.{_∙_}
+use borrow.Author.Needs.{needs}
+use Rattle.token.specs.Codes.{codeOf}
+use Rattle.scan.specs.Classes.{passes}
+use Rattle.lexer.proofs.Quoted.{four-digits, four-few}
+use Rattle.lexer.proofs.string.unicode_four.Statement.{statement}
+use Rattle.lexer.proofs.string.unicode_four.Tie as tie
+
+returns : tie.Need-returns
+unfolding codeOf passes
+returns c = c .found .ensures ∙ four-digits _ _ _ (c .before .before .run-end .ensures) (omega arith)
+
+returns-2 : tie.Need-returns-2
+unfolding passes
+returns-2 c = c .refused .ensures ∙ four-few _ _ _ (c .before .before .run-end .ensures) (omega arith)
+
+pub unicode-four-spec : {M : Type 1} → statement M
+unicode-four-spec =
+    tie.close
+    (tie.spec
+    (λ c. search needs)
+    (λ c κs. search needs)
+    (λ c. search needs)
+    (λ c. search needs)
+    (λ c κs. search needs)
+    returns
+    (λ c κs. search needs)
+    returns-2)

@@ -1,0 +1,40 @@
+-- Where the lexer stands after one more lexeme, and whether there is room for it.
+use Prim.Native.Nat.{ℕ, _+_, _-_, max}
+use mathlib.Core.Bool.{Bool, cond, not, _&&_}
+use lib.Dec.{leb}
+use Rattle.rules.specs.Refusals.{StackFull, ListFull}
+use Rattle.rules.specs.Kinds.{isSpace, isOpener}
+use Rattle.rules.specs.Lexing.{depthAfter}
+use Rattle.lexer.specs.declared.Cursor.{Cursor}
+
+abbrev pub start : Cursor
+start = record { at = 0; depth = 0; lexemes = 0; steps = 0; kept = 0; dropped = 0; deepest = 0 }
+
+-- after a lexeme of a kind that ends at `end`
+unfoldable pub advanceOf : Cursor → (kind end : ℕ) → Cursor
+advanceOf c k e =
+    cond (isSpace k)
+    (record {
+      at = e;
+      depth = c .depth;
+      lexemes = c .lexemes;
+      steps = c .steps + 1;
+      kept = c .kept;
+      dropped = c .dropped + (e - c .at);
+      deepest = c .deepest;
+    })
+    (record {
+      at = e;
+      depth = depthAfter (c .depth) k;
+      lexemes = c .lexemes + 1;
+      steps = c .steps + 1;
+      kept = c .kept + (e - c .at);
+      dropped = c .dropped;
+      deepest = max (c .deepest) (depthAfter (c .depth) k);
+    })
+
+-- 30, 31, or 0 where there is room in a stack and a list of so many places
+unfoldable pub fullOf : (stack places : ℕ) → Cursor → (kind : ℕ) → ℕ
+fullOf stack places c k =
+    cond (isOpener k && leb stack (c .depth)) StackFull (
+    cond (not (isSpace k) && leb places (c .lexemes)) ListFull 0)

@@ -1,0 +1,7 @@
+pub mod ByClass
+pub mod Outcome
+pub mod Words
+pub mod Quotes
+pub mod Cursor
+pub mod Memory
+pub mod Results

@@ -1,0 +1,116 @@
+-- What the code's result means, and the contracts of the loop's parts.
+use Prim.Native.Nat.{ℕ, zero, suc, _+_, _-_, _*_, _≤_, _<_, _^_}
+use mathlib.Core.Path.{_≡_}
+use mathlib.Core.List.{List}
+use mathlib.Core.Bool.{Bool, true, false, cond, not, _&&_}
+use mathlib.Core.Option.{Option, none, some}
+use lib.Dec.{leb, ltb, eqb}
+use lib.ListN.{length, drop, set, getD}
+use Rattle.rules.specs.Spans.{Span as SpanRule, span, spanOf, low, high, Verdict, accepted, refused}
+use Rattle.rules.specs.Refusals.{AnotherDue}
+use Rattle.rules.specs.Kinds.{isSpace, isOpener}
+use Rattle.rules.specs.Lexing.{Lexed as LexedRule, unclosed}
+use Rattle.source.specs.Meaning.{refusalMeant}
+use Rattle.lexer.specs.declared.Answer.{Answer}
+use Rattle.lexer.specs.declared.Answer.the-variants.{Accepted, Refused as RefusedAnswer}
+use Rattle.lexer.specs.declared.Cursor.{Cursor}
+use Rattle.lexer.specs.declared.Fault.{Fault}
+use Rattle.lexer.specs.declared.Lexed.{Lexed}
+use Rattle.lexer.specs.declared.Step.{Step}
+use Rattle.lexer.specs.declared.Step.the-variants.{Found, Refused}
+
+abbrev pub answerMeant : Answer → Verdict
+answerMeant Accepted = accepted
+answerMeant (RefusedAnswer r) = refused (refusalMeant r)
+
+abbrev pub lexedMeant : Lexed → LexedRule
+lexedMeant r = record {
+  verdict = answerMeant (r .answer);
+  lexemes = r .lexemes;
+  steps = r .steps;
+  kept = r .kept;
+  dropped = r .dropped;
+  deepest = r .deepest;
+}
+
+-- a result with the counts of a cursor
+abbrev pub lexedAt : Answer → Cursor → Lexed
+lexedAt a c = record {
+  answer = a;
+  lexemes = c .lexemes;
+  steps = c .steps;
+  kept = c .kept;
+  dropped = c .dropped;
+  deepest = c .deepest;
+}
+
+abbrev pub countedAt : Verdict → Cursor → LexedRule
+countedAt v c = record {
+  verdict = v;
+  lexemes = c .lexemes;
+  steps = c .steps;
+  kept = c .kept;
+  dropped = c .dropped;
+  deepest = c .deepest;
+}
+
+-- the innermost opener's span, as the stack has it
+abbrev pub openerAt : (depth : ℕ) → List ℕ → SpanRule
+openerAt depth sw = spanOf (getD sw ((depth - 1) * 2) 0) (getD sw ((depth - 1) * 2 + 1) 0)
+
+-- of the steps' refusals only 24 has a note
+abbrev pub noteAt : (number depth : ℕ) → List ℕ → Option SpanRule
+noteAt number depth sw = cond (eqb number AnotherDue && ltb 0 depth) (some (openerAt depth sw)) none
+
+abbrev pub refusedWith : (doc : ℕ) → Fault → Cursor → Option SpanRule → LexedRule
+refusedWith doc f c note = countedAt (refused (record { number = f .number; at = span doc (f .start) (f .end); note = note })) c
+
+-- the result at the text's end
+abbrev pub verdictAt : (doc : ℕ) → Cursor → (sk sw : List ℕ) → LexedRule
+verdictAt doc c sk sw =
+    cond (eqb (c .depth) 0) (countedAt accepted c)
+    (countedAt (refused (record { number = unclosed (getD sk (c .depth - 1) 0); at = span doc (c .at) (c .at); note = some (openerAt (c .depth) sw) })) c)
+
+unfoldable pub faultOf : Step → ℕ → Fault
+faultOf (Refused f) at = f
+faultOf (Found l) at = record { end = at; number = 0; start = at }
+
+pub record CanWrite (c : Cursor) (kind : ℕ) (opener : Bool) (end : ℕ) (ks ws sk sw : List ℕ) : Type 0 where
+  pub opens : opener ≡ isOpener kind
+  pub before : c .at < 2 ^ 48
+  pub small : end < 2 ^ 48
+  pub kinds : isSpace kind ≡ false → c .lexemes < length ks
+  pub words : isSpace kind ≡ false → c .lexemes * 2 + 1 < length ws
+  pub stackKinds : isOpener kind ≡ true → c .depth < length sk
+  pub stackWords : isOpener kind ≡ true → c .depth * 2 + 1 < length sw
+
+-- the list has the lexeme unless it is a Space, the stack if it opens
+pub record Wrote (doc : ℕ) (c : Cursor) (kind end : ℕ) (ks ws sk sw ks′ ws′ sk′ sw′ : List ℕ) : Type 0 where
+  pub kinds : ks′ ≡ cond (isSpace kind) ks (set ks (c .lexemes) kind)
+  pub words : ws′ ≡ cond (isSpace kind) ws (set (set ws (c .lexemes * 2) (low (span doc (c .at) end))) (c .lexemes * 2 + 1) (high (span doc (c .at) end)))
+  pub stackKinds : sk′ ≡ cond (isOpener kind) (set sk (c .depth) kind) sk
+  pub stackWords : sw′ ≡ cond (isOpener kind) (set (set sw (c .depth * 2) (low (span doc (c .at) end))) (c .depth * 2 + 1) (high (span doc (c .at) end))) sw
+
+pub record CanDeepen (kind : ℕ) (opener : Bool) (depth : ℕ) : Type 0 where
+  pub opens : opener ≡ isOpener kind
+  pub small : depth < 2 ^ 48
+
+-- no count can overflow
+pub record CanAdvance (c : Cursor) (kind : ℕ) (opener : Bool) (end : ℕ) : Type 0 where
+  pub opens : opener ≡ isOpener kind
+  pub forward : c .at ≤ end
+  pub small : end < 2 ^ 48
+  pub steps : c .steps ≤ c .at
+  pub lexemes : c .lexemes ≤ c .at
+  pub bytes : c .kept + c .dropped ≡ c .at
+  pub depth : c .depth ≤ c .at
+
+pub record CanStop (f : Fault) (c : Cursor) (sw : List ℕ) : Type 0 where
+  pub start : f .start < 2 ^ 48
+  pub end : f .end < 2 ^ 48
+  pub stack : c .depth * 2 ≤ length sw
+
+pub record CanFinish (c : Cursor) (sk sw : List ℕ) : Type 0 where
+  pub at : c .at < 2 ^ 48
+  pub stackKinds : c .depth ≤ length sk
+  pub stackWords : c .depth * 2 ≤ length sw

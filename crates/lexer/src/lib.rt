@@ -1,0 +1,85 @@
+// RCL -- A reasonable configuration language.
+// Copyright 2023 Ruud van Asseldonk
+// Licensed under the Apache License, Version 2.0 (the "License"): see NOTICE.
+// From src/lexer.rs of RCL, changed: lexemes and openers go to lent arrays, and an error is a numbered refusal.
+
+// The lexer splits a text into a sequence of tokens. One step, which the modules make up, and `lex` above it.
+mod ident;
+mod lexing;
+mod list;
+mod next;
+mod number;
+mod punct;
+mod space;
+mod string;
+
+pub use ident::is_keyword;
+pub use lexing::lex;
+ghost use mathlib.Core.Path.{_≡_};
+ghost use Rattle.token.specs.Codes.{codeOf};
+ghost use Rattle.lexer.specs.Outcome.{lexemeTo, refusedAt, stepMeant};
+use source::Refusal;
+use token::Token;
+
+// What a step found: its token, and where it ends. `end` comes first here and in a fault, so that both cases of a step share its place in memory.
+pub struct Lexeme {
+    pub end: usize,
+    pub token: Token,
+}
+
+// Why a step was refused, and its span.
+pub struct Fault {
+    pub end: usize,
+    pub number: u8,
+    pub start: usize,
+}
+
+pub enum Step {
+    Found(Lexeme),
+    Refused(Fault),
+}
+
+// Where the lexer stands, and what it has counted.
+pub struct Cursor {
+    pub at: usize,
+    pub depth: usize,
+    pub lexemes: usize,
+    pub steps: usize,
+    pub kept: usize,
+    pub dropped: usize,
+    pub deepest: usize,
+}
+
+pub enum Answer {
+    Accepted,
+    Refused(Refusal),
+}
+
+// What lexing answers: of the steps that were not refused, how many, how many lexemes, how many bytes of lexemes and of spaces, and the most that was open at once.
+pub struct Lexed {
+    pub answer: Answer,
+    pub lexemes: usize,
+    pub steps: usize,
+    pub kept: usize,
+    pub dropped: usize,
+    pub deepest: usize,
+}
+
+pub(crate) fn found(end: usize, token: Token) -> Step
+    ensures { λ r. ⌜ stepMeant r ≡ lexemeTo (codeOf token) end ⌝ }
+{
+    Step::Found(Lexeme {
+        end: end,
+        token: token,
+    })
+}
+
+pub(crate) fn refused(number: u8, start: usize, end: usize) -> Step
+    ensures { λ r. ⌜ stepMeant r ≡ refusedAt number start end ⌝ }
+{
+    Step::Refused(Fault {
+        end: end,
+        number: number,
+        start: start,
+    })
+}

@@ -1,0 +1,164 @@
+// Punctuation, comments and shebangs, opening quotes, closing brackets.
+ghost use mathlib.Core.Path.{_≡_};
+ghost use mathlib.Core.Bool.{cond, _&&_};
+ghost use Prim.Native.Nat.{_+_, _<_, _^_};
+ghost use lib.Dec.{eqb};
+ghost use lib.ListN.{drop};
+ghost use Rattle.rules.specs.Text.{is, begins, run};
+ghost use Rattle.rules.specs.Bytes.{isNotLF};
+ghost use Rattle.rules.specs.Refusals.{LoneHash};
+ghost use Rattle.rules.specs.Kinds.{Shebang, LineComment, PlainDouble, PlainTriple, HoleOpen, HoleClose, LBrace, RBrace, Eq2, FatArrow, Eq1, Dot, DotDot, DotDotDot, Slash};
+ghost use Rattle.rules.specs.Step.{found as foundRule, stop, closer};
+ghost use Rattle.token.specs.Codes.{codeOf};
+ghost use Rattle.lexer.specs.Outcome.{outcome, stepMeant, Here, innermostOf};
+ghost use Rattle.lexer.specs.ByClass.{punctuated};
+use crate::Step;
+use crate::found;
+use crate::refused;
+use token::Opened;
+use token::QuoteStyle;
+use token::StringPrefix;
+use token::Token;
+
+// The code of the innermost opener, 0 where nothing is open.
+pub(crate) fn innermost_code(top: Opened) -> u8
+    ensures { λ r. ⌜ r ≡ innermostOf top ⌝ }
+{
+    match top {
+        Opened::State(state) => token::state_code(state),
+        Opened::NoOpener => 0,
+    }
+}
+
+// A closing delimiter: verify that it is the right one, whose opener has the code `due`.
+fn pop_delimiter(at: usize, top: Opened, due: u8, token: Token) -> Step
+    requires { ⌜ at < 2 ^ 48 ⌝ }
+    ensures { λ r. ⌜ stepMeant r ≡ outcome at (closer (innermostOf top) due (codeOf token)) ⌝ }
+{
+    let k = innermost_code(top);
+    if k == due {
+        return found(at + 1, token);
+    }
+    if k == 0 {
+        return refused(23, at, at + 1);
+    }
+    refused(24, at, at + 1)
+}
+
+// `}`: what it closes depends on whether it was closing an expression or a string interpolation.
+fn close_brace(at: usize, top: Opened) -> Step
+    requires { ⌜ at < 2 ^ 48 ⌝ }
+    ensures { λ r. ⌜ stepMeant r ≡ outcome at (cond (eqb (innermostOf top) HoleOpen) (foundRule HoleClose 1) (closer (innermostOf top) LBrace RBrace)) ⌝ }
+{
+    if innermost_code(top) == 14 {
+        return found(at + 1, Token::HoleClose);
+    }
+    pop_delimiter(at, top, 37, Token::RBrace)
+}
+
+// `"`, or `"""` where two more quotes follow.
+fn open_quote(text: &[u8], at: usize) -> Step
+    requires { ⌜ Here at (now text) ⌝ }
+    ensures { λ r. ⌜ stepMeant r ≡ outcome at (cond (begins "\"\"" (drop (at + 1) (now (text .entry)))) (foundRule PlainTriple 3) (foundRule PlainDouble 1)) ⌝ }
+{
+    if (scan::byte_at(text, at + 1) == b'"') & (scan::byte_at(text, at + 2) == b'"') {
+        return found(
+            at + 3,
+            Token::QuoteOpen(StringPrefix::None, QuoteStyle::Triple),
+        );
+    }
+    found(
+        at + 1,
+        Token::QuoteOpen(StringPrefix::None, QuoteStyle::Double),
+    )
+}
+
+// `.`, `..` or `...`.
+fn dots(text: &[u8], at: usize, next: u8) -> Step
+    requires { ⌜ Here at (now text) ⌝ }
+    ensures { λ r. ⌜ stepMeant r ≡ outcome at (cond (is "." next && begins "." (drop (at + 2) (now (text .entry)))) (foundRule DotDotDot 3) (cond (is "." next) (foundRule DotDot 2) (foundRule Dot 1))) ⌝ }
+{
+    if next != b'.' {
+        return found(at + 1, Token::Dot);
+    }
+    if scan::byte_at(text, at + 2) == b'.' {
+        return found(at + 3, Token::DotDotDot);
+    }
+    found(at + 2, Token::DotDot)
+}
+
+// One byte of punctuation, or two where `second` follows it.
+fn one_or_two(at: usize, next: u8, second: u8, two: Token, one: Token) -> Step
+    requires { ⌜ at < 2 ^ 48 ⌝ }
+    ensures { λ r. ⌜ stepMeant r ≡ outcome at (cond (eqb next second) (foundRule (codeOf two) 2) (foundRule (codeOf one) 1)) ⌝ }
+{
+    if next == second {
+        return found(at + 2, two);
+    }
+    found(at + 1, one)
+}
+
+// `=`, `==` or `=>`.
+fn equals(at: usize, next: u8) -> Step
+    requires { ⌜ at < 2 ^ 48 ⌝ }
+    ensures { λ r. ⌜ stepMeant r ≡ outcome at (cond (is "=" next) (foundRule Eq2 2) (cond (is ">" next) (foundRule FatArrow 2) (foundRule Eq1 1))) ⌝ }
+{
+    if next == b'=' {
+        return found(at + 2, Token::Eq2);
+    }
+    one_or_two(at, next, b'>', Token::FatArrow, Token::Eq1)
+}
+
+// `//` and what follows it to before the line end, or `/`.
+fn slash(text: &[u8], at: usize, next: u8) -> Step
+    requires { ⌜ Here at (now text) ⌝ }
+    ensures { λ r. ⌜ stepMeant r ≡ outcome at (cond (is "/" next) (foundRule LineComment (run isNotLF (drop at (now (text .entry))))) (foundRule Slash 1)) ⌝ }
+{
+    if next == b'/' {
+        return found(scan::line_end(text, at), Token::LineComment);
+    }
+    found(at + 1, Token::Slash)
+}
+
+// `#!` and what follows it to before the line end. Comments are written with '//', not with '#'.
+fn hash(text: &[u8], at: usize, next: u8) -> Step
+    requires { ⌜ Here at (now text) ⌝ }
+    ensures { λ r. ⌜ stepMeant r ≡ outcome at (cond (is "!" next) (foundRule Shebang (run isNotLF (drop at (now (text .entry))))) (stop LoneHash 0 1)) ⌝ }
+{
+    if next == b'!' {
+        return found(scan::line_end(text, at), Token::Shebang);
+    }
+    refused(13, at, at + 1)
+}
+
+// Lex a token that starts with ascii punctuation.
+pub(crate) fn lex_in_punct(text: &[u8], at: usize, top: Opened) -> Step
+    requires { ⌜ Here at (now text) ⌝ }
+    ensures { λ r. ⌜ stepMeant r ≡ outcome at (punctuated (innermostOf top) (drop at (now (text .entry)))) ⌝ }
+{
+    let next = scan::byte_at(text, at + 1);
+    match text[at] {
+        b'(' => found(at + 1, Token::LParen),
+        b'[' => found(at + 1, Token::LBracket),
+        b'{' => found(at + 1, Token::LBrace),
+        b'*' => found(at + 1, Token::Star),
+        b'+' => found(at + 1, Token::Plus),
+        b',' => found(at + 1, Token::Comma),
+        b':' => found(at + 1, Token::Colon),
+        b';' => found(at + 1, Token::Semicolon),
+        b'|' => found(at + 1, Token::Pipe),
+        b')' => pop_delimiter(at, top, 33, Token::RParen),
+        b']' => pop_delimiter(at, top, 35, Token::RBracket),
+        b'}' => close_brace(at, top),
+        b'"' => open_quote(text, at),
+        b'<' => one_or_two(at, next, b'=', Token::LtEq, Token::Lt),
+        b'>' => one_or_two(at, next, b'=', Token::GtEq, Token::Gt),
+        b'=' => equals(at, next),
+        b'!' => one_or_two(at, next, b'=', Token::Neq, Token::Bang),
+        b'-' => one_or_two(at, next, b'>', Token::ThinArrow, Token::Minus),
+        b'.' => dots(text, at, next),
+        b'/' => slash(text, at, next),
+        b'#' => hash(text, at, next),
+        _ => refused(12, at, at + 1),
+    }
+}

@@ -1,0 +1,22 @@
+// Whitespace.
+ghost use mathlib.Core.Path.{_≡_};
+ghost use lib.ListN.{drop};
+ghost use Rattle.rules.specs.Step.{whitespace};
+ghost use Rattle.lexer.specs.Outcome.{outcome, stepMeant, Here};
+use crate::Step;
+use crate::found;
+use token::Token;
+
+// A Space, or a Blank with two line ends or more.
+pub(crate) fn lex_in_space(text: &[u8], at: usize) -> Step
+    requires { ⌜ Here at (now text) ⌝ }
+    ensures { λ r. ⌜ stepMeant r ≡ outcome at (whitespace (drop at (now (text .entry)))) ⌝ }
+{
+    let run = scan::whitespace(text, at);
+    let lines = run.lines;
+    let end = run.end;
+    if 2 <= lines {
+        return found(end, Token::Blank);
+    }
+    found(end, Token::Space)
+}

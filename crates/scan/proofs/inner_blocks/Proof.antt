@@ -1,0 +1,55 @@
+-- The scan has come to here; each turn joins a block to it.
+use Prim.Native.Nat.{_-_}
+use lib.ListN.{length}
+use borrow.Author.Tests.{not-false}
+use Rattle.scan.specs.Classes.{isInnerFor}
+use Rattle.scan.specs.Reach.{Reach}
+use Rattle.scan.proofs.Reach.{stay, join}
+use native.Mathlib.Omega.{arith}
+use Rattle.scan.proofs.inner_blocks.Statement.{statement}
+use Rattle.scan.proofs.inner_blocks.Tie as tie
+
+abbrev Inv-loop : tie.InvT-loop
+Inv-loop text at stop n i₀ i = Reach (isInnerFor stop) text at i
+
+abbrev μ-loop : tie.MeasureT-loop
+μ-loop text at stop n i₀ i = length text - i
+
+loop-holds : tie.Need-loop-holds Inv-loop μ-loop
+loop-holds c = stay
+
+sub-loop : tie.Need-sub-loop Inv-loop μ-loop
+sub-loop c = omega arith
+
+inner-block-requires : tie.Need-inner-block-requires Inv-loop μ-loop
+inner-block-requires c κs = omega arith
+
+returns : tie.Need-returns Inv-loop μ-loop
+returns c = c .before .before .before .loop .inv
+
+add-i : tie.Need-add-i Inv-loop μ-loop
+add-i c = omega arith
+
+loop-less : tie.Need-loop-less Inv-loop μ-loop
+loop-less c = omega arith
+
+loop-again : tie.Need-loop-again Inv-loop μ-loop
+loop-again c = join (c .before .before .before .loop .inv) (c .before .inner-block .ensures .then (not-false _ (c .if1 .left)))
+
+returns-2 : tie.Need-returns-2 Inv-loop μ-loop
+returns-2 c = c .before .loop .inv
+
+pub inner-blocks-spec : {M : Type 1} → statement M
+inner-blocks-spec =
+    tie.close
+    (tie.spec
+    Inv-loop
+    μ-loop
+    loop-holds
+    sub-loop
+    inner-block-requires
+    returns
+    add-i
+    loop-less
+    loop-again
+    returns-2)

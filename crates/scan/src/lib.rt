@@ -1,0 +1,317 @@
+// Runs of bytes: where the bytes that pass a test end. A position past the text's end is its own end.
+ghost use mathlib.Core.Path.{_≡_};
+ghost use mathlib.Core.Bool.{cond, not};
+ghost use Prim.Native.Nat.{_+_, _≤_};
+ghost use lib.ListN.{length, drop, getD};
+ghost use Rattle.rules.specs.Text.{is, run};
+ghost use Rattle.rules.specs.Bytes.{isDigit, isHexDigit, isNotLF, isWhitespace};
+ghost use Rattle.rules.specs.Step.{isDigitOrUnderscore};
+ghost use Rattle.scan.specs.Classes.{passes, isInnerFor};
+ghost use Rattle.scan.specs.Reach.{Reach, ReachIf, Stops, MeasuredAs};
+
+// The runs that are read seldom, or are short.
+pub enum Class {
+    Hex,
+    HexOrUnderscore,
+    BinaryOrUnderscore,
+    Underscore,
+    Control,
+    Over127,
+    Tail,
+}
+
+// The byte at `i`, and 0 past the end.
+pub fn byte_at(text: &[u8], i: usize) -> u8
+    ensures { λ r. ⌜ r ≡ getD (now (text .entry)) i 0 ⌝ }
+{
+    if i < text.len() {
+        return text[i];
+    }
+    0
+}
+
+pub fn is_digit(b: u8) -> bool
+    ensures { λ r. ⌜ r ≡ isDigit b ⌝ }
+{
+    (b'0' <= b) & (b <= b'9')
+}
+
+pub fn is_hex_digit(b: u8) -> bool
+    ensures { λ r. ⌜ r ≡ isHexDigit b ⌝ }
+{
+    is_digit(b) | (b'a' <= b) & (b <= b'f') | (b'A' <= b) & (b <= b'F')
+}
+
+// Whether a byte is of a class.
+fn is_of(class: Class, b: u8) -> bool
+    ensures { λ r. ⌜ r ≡ passes class b ⌝ }
+{
+    match class {
+        Class::Hex => is_hex_digit(b),
+        Class::HexOrUnderscore => is_hex_digit(b) | (b == b'_'),
+        Class::BinaryOrUnderscore => (b'0' <= b) & (b <= b'1') | (b == b'_'),
+        Class::Underscore => b == b'_',
+        Class::Control => (b < 0x20) | (b == 0x7F),
+        Class::Over127 => 127 < b,
+        Class::Tail => (0x80 <= b) & (b <= 0xBF),
+    }
+}
+
+// Where a run of a class ends.
+pub fn run_end(text: &[u8], at: usize, class: Class) -> usize
+    ensures { λ r. ⌜ r ≡ at + run (passes class) (drop at (now (text .entry))) ⌝ }
+{
+    let mut i = at;
+    while i < text.len() {
+        if !is_of(class, text[i]) {
+            return i;
+        }
+        i += 1;
+    }
+    i
+}
+
+// Where digits and underscores end.
+pub fn digits_end(text: &[u8], at: usize) -> usize
+    ensures { λ r. ⌜ r ≡ at + run isDigitOrUnderscore (drop at (now (text .entry))) ⌝ }
+{
+    let mut i = at;
+    while i < text.len() {
+        let b = text[i];
+        if !(is_digit(b) | (b == b'_')) {
+            return i;
+        }
+        i += 1;
+    }
+    i
+}
+
+// Whether 16 bytes have no line end: a loop without an exit, so that it is done in one go.
+fn line_block(text: &[u8], at: usize) -> bool
+    requires { ⌜ at + 16 ≤ length (now text) ⌝ }
+    ensures { λ r. ⌜ ReachIf r isNotLF (now (text .entry)) at (at + 16) ⌝ }
+{
+    let mut all = true;
+    let mut j = 0;
+    while j < 16 {
+        all = all & !(text[at + j] == b'\n');
+        j += 1;
+    }
+    all
+}
+
+// Passes over blocks of 16 bytes without a line end.
+fn line_blocks(text: &[u8], at: usize) -> usize
+    requires { ⌜ at ≤ length (now text) ⌝ }
+    ensures { λ r. ⌜ Reach isNotLF (now (text .entry)) at r ⌝ }
+{
+    let n = text.len();
+    let mut i = at;
+    while 16 <= n - i {
+        if !line_block(text, i) {
+            return i;
+        }
+        i += 16;
+    }
+    i
+}
+
+// The end of a line, before its LF.
+fn line_end_from(text: &[u8], at: usize) -> usize
+    requires { ⌜ at ≤ length (now text) ⌝ }
+    ensures { λ r. ⌜ r ≡ at + run isNotLF (drop at (now (text .entry))) ⌝ }
+{
+    let mut i = line_blocks(text, at);
+    while i < text.len() {
+        if text[i] == b'\n' {
+            return i;
+        }
+        i += 1;
+    }
+    i
+}
+
+// The end of a line, before its LF.
+pub fn line_end(text: &[u8], at: usize) -> usize
+    ensures { λ r. ⌜ r ≡ at + run isNotLF (drop at (now (text .entry))) ⌝ }
+{
+    if text.len() < at {
+        return at;
+    }
+    line_end_from(text, at)
+}
+
+// Whether a byte ends an inner part of a string; `stop` is the brace in a format string, a quote in a plain one.
+fn ends_inner(b: u8, stop: u8) -> bool
+    ensures { λ r. ⌜ not r ≡ isInnerFor stop b ⌝ }
+{
+    (b == b'\\') | (b == b'"') | (b == b'\n') | (b == stop)
+}
+
+// Whether nothing in 16 bytes ends an inner part.
+fn inner_block(text: &[u8], at: usize, stop: u8) -> bool
+    requires { ⌜ at + 16 ≤ length (now text) ⌝ }
+    ensures { λ r. ⌜ ReachIf r (isInnerFor stop) (now (text .entry)) at (at + 16) ⌝ }
+{
+    let mut all = true;
+    let mut j = 0;
+    while j < 16 {
+        all = all & !ends_inner(text[at + j], stop);
+        j += 1;
+    }
+    all
+}
+
+// Passes over blocks of 16 bytes in which nothing ends an inner part.
+fn inner_blocks(text: &[u8], at: usize, stop: u8) -> usize
+    requires { ⌜ at ≤ length (now text) ⌝ }
+    ensures { λ r. ⌜ Reach (isInnerFor stop) (now (text .entry)) at r ⌝ }
+{
+    let n = text.len();
+    let mut i = at;
+    while 16 <= n - i {
+        if !inner_block(text, i, stop) {
+            return i;
+        }
+        i += 16;
+    }
+    i
+}
+
+// Passes over bytes that go on an inner part, up to an end.
+fn inner_bytes(text: &[u8], at: usize, end: usize, stop: u8) -> usize
+    requires { ⌜ (at ≤ end) × (end ≤ length (now text)) ⌝ }
+    ensures { λ r. ⌜ Stops (isInnerFor stop) (now (text .entry)) at end r ⌝ }
+{
+    let mut i = at;
+    while i < end {
+        if ends_inner(text[i], stop) {
+            return i;
+        }
+        i += 1;
+    }
+    i
+}
+
+// 16 bytes further, or the text's end.
+fn further(text: &[u8], at: usize) -> usize
+    requires { ⌜ at ≤ length (now text) ⌝ }
+    ensures { λ r. ⌜ (at ≤ r) × (r ≤ length (now (text .entry))) ⌝ }
+{
+    let n = text.len();
+    if n - at < 16 {
+        return n;
+    }
+    at + 16
+}
+
+// Where an inner part ends: most are short, so 16 bytes one by one come first, then blocks.
+fn inner_end_from(text: &[u8], at: usize, stop: u8) -> usize
+    requires { ⌜ at ≤ length (now text) ⌝ }
+    ensures { λ r. ⌜ r ≡ at + run (isInnerFor stop) (drop at (now (text .entry))) ⌝ }
+{
+    let near = further(text, at);
+    let first = inner_bytes(text, at, near, stop);
+    if first < near {
+        return first;
+    }
+    let far = inner_blocks(text, near, stop);
+    inner_bytes(text, far, text.len(), stop)
+}
+
+// Where an inner part ends.
+pub fn inner_end(text: &[u8], at: usize, stop: u8) -> usize
+    ensures { λ r. ⌜ r ≡ at + run (isInnerFor stop) (drop at (now (text .entry))) ⌝ }
+{
+    if text.len() < at {
+        return at;
+    }
+    inner_end_from(text, at, stop)
+}
+
+// A run of whitespace: where it ends, and how many line ends it has.
+pub struct Measured {
+    pub end: usize,
+    pub lines: usize,
+}
+
+fn is_whitespace(b: u8) -> bool
+    ensures { λ r. ⌜ r ≡ isWhitespace b ⌝ }
+{
+    (b == b' ') | (b == b'\t') | (b == b'\n') | (b == 0x0C) | (b == b'\r')
+}
+
+// 1 for a line end, else 0.
+fn line_of(b: u8) -> usize
+    ensures { λ r. ⌜ r ≡ cond (is "\n" b) 1 0 ⌝ }
+{
+    if b == b'\n' {
+        return 1;
+    }
+    0
+}
+
+// Whether 16 bytes are spaces.
+fn spaces_block(text: &[u8], at: usize) -> bool
+    requires { ⌜ at + 16 ≤ length (now text) ⌝ }
+    ensures { λ r. ⌜ ReachIf r (is " ") (now (text .entry)) at (at + 16) ⌝ }
+{
+    let mut all = true;
+    let mut j = 0;
+    while j < 16 {
+        all = all & (text[at + j] == b' ');
+        j += 1;
+    }
+    all
+}
+
+// Passes over blocks of 16 spaces.
+fn spaces_blocks(text: &[u8], at: usize) -> usize
+    requires { ⌜ at ≤ length (now text) ⌝ }
+    ensures { λ r. ⌜ Reach (is " ") (now (text .entry)) at r ⌝ }
+{
+    let n = text.len();
+    let mut i = at;
+    while 16 <= n - i {
+        if !spaces_block(text, i) {
+            return i;
+        }
+        i += 16;
+    }
+    i
+}
+
+// After a line end an indentation is likely, and a run that is long may go on: blocks of spaces are passed over.
+fn after_byte(text: &[u8], at: usize, likely: bool) -> usize
+    requires { ⌜ at ≤ length (now text) ⌝ }
+    ensures { λ r. ⌜ Reach (is " ") (now (text .entry)) at r ⌝ }
+{
+    if likely {
+        return spaces_blocks(text, at);
+    }
+    at
+}
+
+// Measures a run of whitespace and counts its line ends in one pass.
+pub fn whitespace(text: &[u8], at: usize) -> Measured
+    ensures { λ r. ⌜ MeasuredAs (now (text .entry)) at r ⌝ }
+{
+    let mut i = at;
+    let mut lines = 0;
+    while i < text.len() {
+        let b = text[i];
+        if !is_whitespace(b) {
+            return Measured {
+                end: i,
+                lines: lines,
+            };
+        }
+        let likely = (b == b'\n') | (16 <= i - at) & (b == b' ');
+        lines += line_of(b);
+        i = after_byte(text, i + 1, likely);
+    }
+    Measured {
+        end: i,
+        lines: lines,
+    }
+}
