@@ -1,25 +1,25 @@
 -- The loop of `lex`, in the words of its parts' contracts: what a step's answer says of the text, and that each way out gives the call's result and arrays.
-use Prim.Native.Nat.{ℕ, zero, suc, _+_, _-_, _*_, _≤_, _<_, _^_}
+use Prim.Native.Nat.{ℕ, _+_, _-_, _≤_, _<_, _^_}
 use mathlib.Core.Path.{_≡_, refl, sym, ap, _∙_}
-use mathlib.Core.List.{List, [], _∷_, _++_, map}
+use mathlib.Core.List.{List, [], _∷_, map}
 use mathlib.Core.Bool.{Bool, true, false, cond, not, _&&_}
-use mathlib.Core.Option.{Option, none, some}
+use mathlib.Core.Option.{none, some}
 use native.Mathlib.Omega.{arith}
 use lib.Dec.{leb, ltb, eqb}
-use lib.ListN.{length, drop, getD, set, length-drop}
+use lib.ListN.{length, drop, getD, length-drop}
 use borrow.Author.Tests.{eqb-true, eqb-false, lt-leb, ltb-true, ltb-false}
 use native.Mathlib.Nat.{add-zero, zero-add}
-use Rattle.rules.specs.Spans.{Span as SpanRule, span, spanOf, low, high, limit, Verdict, accepted, refused}
+use Rattle.rules.specs.Spans.{span, low, high, limit, accepted, refused}
 use Rattle.rules.specs.Utf8.{firstBad}
 use Rattle.rules.specs.Refusals.{NotUtf8, TooLong, AnotherDue, UnclosedBracket, UnclosedHole, UnclosedString, UnclosedFormat, StackFull, ListFull}
 use Rattle.rules.specs.Kinds.{HoleOpen, Nothing, between, isSpace, isQuoteOpen, isFormat, isOpener}
 use Rattle.rules.specs.Step.{Step as StepRule, found, stop, step}
-use Rattle.rules.specs.Lexing.{End, ended, stopped, Trace, ends, innermost, unclosed, atEnd, Lexeme, listedOf, placed, noteOf, verdictOf, Lexed as LexedRule, lexedOf, traceIn, placesOf, kindsWith, wordsWith, listing, lexing, Lexes}
-use Rattle.rules.proofs.Bounds.{found-inside, found-kind, stop-inside, stop-number}
-use Rattle.rules.proofs.Rfc3629.{StopsAt, first-bad}
+use Rattle.rules.specs.Lexing.{End, stopped, ends, innermost, unclosed, atEnd, Lexeme, noteOf, verdictOf, Lexed as LexedRule, lexedOf, traceIn, placesOf, listing, lexing, Lexes}
+use Rattle.rules.proofs.Bounds.{found-inside, stop-inside, stop-number}
+use Rattle.rules.proofs.Rfc3629.{first-bad}
 use Rattle.rules.proofs.Text.{decide}
-use Rattle.rules.proofs.Trace.{trace-long, trace-bad, within, within-ends}
-use Rattle.token.specs.Codes.{codeOf, stateCode, stateMeant, ifOpener}
+use Rattle.rules.proofs.Trace.{trace-long, trace-bad, within-ends}
+use Rattle.token.specs.Codes.{codeOf, stateMeant, ifOpener}
 use Rattle.token.specs.declared.Opened.{Opened}
 use Rattle.token.specs.declared.Opened.the-variants.{State as OpenedState, NoOpener}
 use Rattle.lexer.specs.declared.Cursor.{Cursor}
@@ -30,8 +30,8 @@ use Rattle.lexer.specs.declared.Step.{Step}
 use Rattle.lexer.specs.declared.Step.the-variants.{Found, Refused}
 use Rattle.lexer.specs.Cursor.{start, advanceOf, fullOf}
 use Rattle.lexer.specs.Memory.{topOf}
-use Rattle.lexer.specs.Outcome.{Outcome, lexemeTo, refusedAt, outcome, stepMeant, innermostOf}
-use Rattle.lexer.specs.Results.{lexedMeant, countedAt, openerAt, noteAt, refusedWith, verdictAt, faultOf, CanWrite, Wrote, CanAdvance, CanStop, CanFinish}
+use Rattle.lexer.specs.Outcome.{lexemeTo, refusedAt, outcome, stepMeant, innermostOf}
+use Rattle.lexer.specs.Results.{lexedMeant, countedAt, noteAt, refusedWith, verdictAt, faultOf, CanWrite, Wrote, CanAdvance, CanStop, CanFinish}
 use Rattle.lexer.proofs.Standing.{Standing, opened, codes, bounds, list-kinds, list-words, room-list, room-stack, standing-on, top-code, top-none, top-opener, note-some, note-none, note-other, answer, listed, standing-end, standing-stop, standing-full}
 
 -- what an outcome says of the step

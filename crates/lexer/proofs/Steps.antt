@@ -1,18 +1,17 @@
 -- One step by position: outside strings by the class of the byte there, in a string by the opener's stop and style.
-use Prim.Native.Nat.{ℕ, zero, suc, _+_, _≤_, _<_}
+use Prim.Native.Nat.{ℕ, suc, _+_, _<_}
 use Prim.Native.Char.{code}
-use mathlib.Core.Path.{_≡_, refl, sym, ap, _∙_}
-use mathlib.Core.List.{List, [], _∷_}
-use mathlib.Core.Bool.{Bool, true, false, cond, not, _&&_, _||_}
+use mathlib.Core.Path.{_≡_, refl, sym, _∙_}
+use mathlib.Core.List.{List}
+use mathlib.Core.Bool.{Bool, true, false, cond, _&&_}
 use native.Mathlib.Omega.{arith}
-use lib.Dec.{eqb}
 use lib.ListN.{length, drop, getD}
 use lib.Seq.{drop-cons}
 use Rattle.rules.specs.Text.{is, begins, run}
 use Rattle.rules.specs.Bytes.{isControl, isOver127, classOf, Whitespace, Control, Digit, Letter, Punctuation, Over127}
 use Rattle.rules.specs.Refusals.{ControlByte, NotAscii}
 use Rattle.rules.specs.Kinds.{FormatDouble, FormatTriple, isQuoteOpen, isFormat, isTriple}
-use Rattle.rules.specs.Step.{Step, found, stop, number, identifier, whitespace, outside, inside, step}
+use Rattle.rules.specs.Step.{found, stop, number, identifier, whitespace, outside, step}
 use Rattle.rules.proofs.Runs.{begins-at, begins-more}
 use Rattle.rules.proofs.Text.{decide}
 use Rattle.token.specs.Codes.{quoteCode}
@@ -20,7 +19,7 @@ use Rattle.token.specs.declared.QuoteStyle.{QuoteStyle}
 use Rattle.token.specs.declared.QuoteStyle.the-variants.{Double, Triple}
 use Rattle.token.specs.declared.StringPrefix.the-variants.{None, Format}
 use Rattle.lexer.specs.ByClass.{lettered, punctuated}
-use Rattle.lexer.specs.Outcome.{Outcome, lexemeTo, refusedAt, outcome}
+use Rattle.lexer.specs.Outcome.{Outcome, outcome}
 use Rattle.lexer.specs.Quotes.{Quoted, stopOf}
 use Rattle.lexer.proofs.ByClass.{at-whitespace, at-control, at-digit, at-letter, at-punctuation, at-over-127, six}
 

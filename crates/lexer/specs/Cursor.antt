@@ -1,6 +1,6 @@
 -- Where the lexer stands after one more lexeme, and whether there is room for it.
 use Prim.Native.Nat.{ℕ, _+_, _-_, max}
-use mathlib.Core.Bool.{Bool, cond, not, _&&_}
+use mathlib.Core.Bool.{cond, not, _&&_}
 use lib.Dec.{leb}
 use Rattle.rules.specs.Refusals.{StackFull, ListFull}
 use Rattle.rules.specs.Kinds.{isSpace, isOpener}

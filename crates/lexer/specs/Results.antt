@@ -1,11 +1,11 @@
 -- What the code's result means, and the contracts of the loop's parts.
-use Prim.Native.Nat.{ℕ, zero, suc, _+_, _-_, _*_, _≤_, _<_, _^_}
+use Prim.Native.Nat.{ℕ, _+_, _-_, _*_, _≤_, _<_, _^_}
 use mathlib.Core.Path.{_≡_}
 use mathlib.Core.List.{List}
-use mathlib.Core.Bool.{Bool, true, false, cond, not, _&&_}
+use mathlib.Core.Bool.{Bool, true, false, cond, _&&_}
 use mathlib.Core.Option.{Option, none, some}
-use lib.Dec.{leb, ltb, eqb}
-use lib.ListN.{length, drop, set, getD}
+use lib.Dec.{ltb, eqb}
+use lib.ListN.{length, set, getD}
 use Rattle.rules.specs.Spans.{Span as SpanRule, span, spanOf, low, high, Verdict, accepted, refused}
 use Rattle.rules.specs.Refusals.{AnotherDue}
 use Rattle.rules.specs.Kinds.{isSpace, isOpener}

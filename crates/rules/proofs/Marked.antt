@@ -1,8 +1,8 @@
 -- "Of the definitions themselves the marked pairs a to l are shown, gathered in one theorem"; and the two worked texts of "Beside the line".
 use Prim.Native.Nat.{ℕ}
 use mathlib.Core.Path.{_≡_, refl}
-use mathlib.Core.List.{List, [], _∷_, _++_, map}
-use mathlib.Core.Option.{Option, none, some}
+use mathlib.Core.List.{List, [], _∷_, map}
+use mathlib.Core.Option.{some}
 use lib.ListN.{length, replicate}
 use Rattle.rules.specs.Text.{ascii}
 use Rattle.rules.specs.Refusals.{ControlByte, NoFractionDigit, NoExponentDigit, NoBinaryDigit, AnotherDue, UnclosedHole, NoDigits, ManyDigits}

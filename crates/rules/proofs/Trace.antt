@@ -2,21 +2,20 @@
 use Prim.Native.Nat.{ℕ, zero, suc, pred, _+_, _-_, _*_, _≤_, _<_, max}
 use mathlib.Core.Path.{_≡_, refl, sym, ap, _∙_}
 use mathlib.Core.List.{List, [], _∷_, _++_, map, append-assoc, append-nil}
-use mathlib.Core.Bool.{Bool, true, false, cond, not, _&&_}
+use mathlib.Core.Bool.{true, false, not, _&&_}
 use mathlib.Core.Option.{none, some}
 use native.Mathlib.Omega.{arith}
 use borrow.Author.Tests.{lt-ltb, le-ltb}
-use lib.Dec.{leb, ltb, eqb}
+use lib.Dec.{leb, eqb}
 use lib.ListN.{take, drop, length, set, getD, length-append, length-drop, length-map, length-set}
 use lib.Seq.{drop-drop, getD-set-same, getD-set-other}
-use Rattle.rules.specs.Text.{keep, join}
 use Rattle.rules.specs.Utf8.{firstBad}
 use Rattle.rules.specs.Refusals.{NotUtf8, TooLong, StackFull, ListFull}
 use Rattle.rules.specs.Spans.{span, low, high, limit, spanOf}
 use Rattle.rules.specs.Kinds.{isSpace, isOpener, isCloser}
-use Rattle.rules.specs.Step.{Step, found, stop, step}
-use Rattle.rules.specs.Lexing.{Piece, piece, End, ended, stopped, Trace, ends, after, openAfter, codesAfter, innermost, atEnd, traceFrom, trace, depthAfter, roomAfter, limited, lexemesOf, joined, deepestFrom, Lexeme, lexeme, placed, listedOf, openOf, wordsOf, kindsWith, wordsWith}
-use Rattle.rules.proofs.Text.{decide, keep-append}
+use Rattle.rules.specs.Step.{found, stop, step}
+use Rattle.rules.specs.Lexing.{Piece, piece, End, stopped, Trace, ends, after, openAfter, codesAfter, innermost, atEnd, traceFrom, trace, depthAfter, roomAfter, limited, lexemesOf, joined, deepestFrom, Lexeme, lexeme, placed, listedOf, openOf, wordsOf, kindsWith, wordsWith}
+use Rattle.rules.proofs.Text.{decide}
 
 pub joined-append : (ps qs : List Piece) → joined (ps ++ qs) ≡ joined ps ++ joined qs
 joined-append [] qs = refl

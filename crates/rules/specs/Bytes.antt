@@ -1,7 +1,7 @@
 -- "The class of each of the 256 byte values stands in a table: whitespace, other control, digit, letter or `_`, other punctuation, over 127."
 use Prim.Native.Nat.{ℕ}
-use mathlib.Core.Bool.{Bool, cond, not, _&&_, _||_}
-use lib.Dec.{leb, ltb, eqb}
+use mathlib.Core.Bool.{Bool, cond, not, _||_}
+use lib.Dec.{ltb, eqb}
 use Rattle.rules.specs.Text.{is, within}
 
 -- "whitespace (space, TAB, LF, 0x0C, CR ..)"

@@ -4,7 +4,7 @@ use mathlib.Core.Path.{_≡_}
 use mathlib.Core.Bool.{true}
 use Prim.Native.Nat.{ℕ}
 use Rattle.rules.specs.Text.{ascii, within, keep, is}
-use mathlib.Core.Bool.{Bool, not}
+use mathlib.Core.Bool.{not}
 
 abbrev pub DIGIT : ℕ → Type 0
 DIGIT b = within "0" "9" b ≡ true

@@ -1,5 +1,5 @@
 -- "Escapes are RFC 8259's single letters plus `\{` and `\}`; output is UTF-8."
-use Prim.Native.Nat.{ℕ, zero, suc, _+_, _-_, _*_}
+use Prim.Native.Nat.{ℕ, _+_, _-_, _*_}
 use Prim.Native.Char.{code}
 use mathlib.Core.List.{List, [], _∷_}
 use mathlib.Core.Bool.{Bool, cond, _&&_, _||_}
@@ -11,7 +11,7 @@ use Rattle.rules.specs.Utf8.{encode, isScalar}
 use Rattle.rules.specs.Refusals.{WrongForm, UnknownEscape, CapitalEscape, NoDigits, ManyDigits, NotScalar}
 use Rattle.rules.specs.Spans.{Span, bytesAt, Answer, given, refused, refuse, unlessBad, Verdict, accepted}
 use Rattle.rules.specs.Kinds.{Single, Unicode4, UnicodeDelim}
-use Rattle.rules.specs.Output.{endOf, chunk, Written, written, overwritten}
+use Rattle.rules.specs.Output.{endOf, chunk, written, overwritten}
 
 -- "Form: kind 11 is `\` and one byte"
 unfoldable pub isSingle : List ℕ → Bool

@@ -1,6 +1,6 @@
 -- "Kind codes", by the names of the Rust's `Token` and with the paper's numbers.
 use Prim.Native.Nat.{ℕ}
-use mathlib.Core.Bool.{Bool, not, _&&_, _||_}
+use mathlib.Core.Bool.{Bool, _&&_, _||_}
 use lib.Dec.{leb, eqb}
 
 -- Space 0 (dropped)

@@ -2,14 +2,14 @@
 use Prim.Native.Nat.{ℕ, zero, suc, pred, _+_, _*_, _/_, min, max}
 use mathlib.Core.Path.{_≡_}
 use mathlib.Core.List.{List, [], _∷_, _++_, map}
-use mathlib.Core.Bool.{Bool, true, false, cond, not, _&&_, _||_}
+use mathlib.Core.Bool.{Bool, true, false, cond, not, _&&_}
 use mathlib.Core.Option.{Option, none, some}
 use lib.Dec.{leb, ltb, eqb}
 use lib.ListN.{take, drop, length}
 use Rattle.rules.specs.Text.{keep, join}
 use Rattle.rules.specs.Utf8.{firstBad}
 use Rattle.rules.specs.Refusals.{NotUtf8, TooLong, AnotherDue, UnclosedBracket, UnclosedHole, UnclosedString, UnclosedFormat, StackFull, ListFull}
-use Rattle.rules.specs.Spans.{Span, span, low, high, spanOf, limit, Refusal, Answer, given, refused, Verdict, accepted}
+use Rattle.rules.specs.Spans.{Span, span, low, high, spanOf, limit, refused, Verdict, accepted}
 use Rattle.rules.specs.Kinds.{HoleOpen, Nothing, between, isSpace, isQuoteOpen, isFormat, isOpener, isCloser}
 use Rattle.rules.specs.Step.{Step, found, stop, step}
 

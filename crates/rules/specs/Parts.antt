@@ -1,12 +1,11 @@
 -- "Parts list: from a QuoteOpen, depth 1."
 use Prim.Native.Nat.{ℕ, zero, suc, pred}
 use mathlib.Core.List.{List, [], _∷_}
-use mathlib.Core.Bool.{Bool, cond, not, _&&_, _||_}
-use mathlib.Core.Option.{none}
+use mathlib.Core.Bool.{cond, _||_}
 use lib.Dec.{eqb}
 use lib.ListN.{take, drop, length}
 use Rattle.rules.specs.Refusals.{BadSpan, ListFull, NoString}
-use Rattle.rules.specs.Spans.{Span, nowhere, isBad, enclosing, Refusal, Answer, given, refused, refuse}
+use Rattle.rules.specs.Spans.{Span, nowhere, isBad, enclosing, Answer, given, refuse}
 use Rattle.rules.specs.Kinds.{QuoteClose, StringInner, HoleOpen, HoleClose, isQuoteOpen, isEscape}
 use Rattle.rules.specs.Lexing.{Lexeme, lexeme, placesOf, lexemesIn, kindsWith, wordsWith}
 

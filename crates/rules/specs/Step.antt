@@ -1,8 +1,8 @@
 -- "One step of the lexer": a function of the innermost opener's code and the text that is left.
 use Prim.Native.Nat.{ℕ, zero, suc, _+_}
-use mathlib.Core.List.{List, [], _∷_}
+use mathlib.Core.List.{List}
 use mathlib.Core.Bool.{Bool, true, false, cond, not, _&&_, _||_}
-use lib.Dec.{leb, ltb, eqb}
+use lib.Dec.{leb, eqb}
 use lib.ListN.{take, drop, getD}
 use Rattle.rules.specs.Text.{is, begins, same, starts, run, count}
 use Rattle.rules.specs.Bytes.{isWhitespace, isControl, isDigit, isLetter, isPunctuation, isOver127, isIdentifierByte, isHexDigit, isBinaryDigit, isNotLF}

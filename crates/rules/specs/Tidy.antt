@@ -1,14 +1,14 @@
 -- "The gap rule and the tidy writer".
 use Prim.Native.Nat.{ℕ}
 use mathlib.Core.List.{List, [], _∷_, _++_}
-use mathlib.Core.Bool.{Bool, cond, _||_}
+use mathlib.Core.Bool.{cond, _||_}
 use lib.Dec.{eqb}
 use lib.ListN.{length}
 use Rattle.rules.specs.Text.{ascii, join}
 use Rattle.rules.specs.Spans.{Verdict, given, refused}
 use Rattle.rules.specs.Kinds.{Blank, Shebang, LineComment, StringInner, HoleClose, isQuoteOpen, isEscape}
-use Rattle.rules.specs.Lexing.{Piece, Trace, trace, traceIn, lexemesOf, Lexeme, placed, listedOf, Lexed, lexedOf}
-use Rattle.rules.specs.Output.{endOf, Chunk, chunk, Written, written, overwritten}
+use Rattle.rules.specs.Lexing.{Piece, trace, traceIn, lexemesOf, Lexeme, placed, listedOf, Lexed, lexedOf}
+use Rattle.rules.specs.Output.{endOf, Chunk, chunk, written, overwritten}
 use Rattle.rules.specs.Indent.{andThen}
 
 -- "Between two: nothing if either is Blank or the first is QuoteOpen, StringInner, Escape or HoleClose; one LF after LineComment or Shebang; else one space."

@@ -1,5 +1,5 @@
 -- "Value": String and Escape parts in order; and handing it back.
-use Prim.Native.Nat.{ℕ, _+_, _-_, min}
+use Prim.Native.Nat.{ℕ, _+_, min}
 use mathlib.Core.List.{List, [], _∷_, _++_}
 use mathlib.Core.Bool.{Bool, false, cond, _&&_}
 use lib.Dec.{eqb}
@@ -8,7 +8,7 @@ use Rattle.rules.specs.Text.{begins}
 use Rattle.rules.specs.Spans.{span, bytesAt, Answer, given, refused, Verdict, accepted, resolved}
 use Rattle.rules.specs.Kinds.{HoleOpen, Nothing, isTriple, isEscape}
 use Rattle.rules.specs.Lexing.{Lexeme, placesOf, kindsWith, wordsWith}
-use Rattle.rules.specs.Output.{endOf, Chunk, chunk, Written, written, overwritten}
+use Rattle.rules.specs.Output.{endOf, Chunk, chunk, written, overwritten}
 use Rattle.rules.specs.Escapes.{escapeScalar, escapeBytes, verdictOn}
 use Rattle.rules.specs.Parts.{Parts, partsIn, lexemesFrom}
 use Rattle.rules.specs.Indent.{andThen, firstRefusal, partVerdict, isStringPart, spacesAfter, indentOf}

@@ -1,6 +1,5 @@
 -- The scan has come over the blocks, and then to here; each turn is one more byte of it.
 use Prim.Native.Nat.{_-_}
-use mathlib.Core.Path.{refl}
 use lib.ListN.{length}
 use borrow.Author.Tests.{eq-eqb, ne-eqb}
 use Rattle.rules.specs.Bytes.{isNotLF}

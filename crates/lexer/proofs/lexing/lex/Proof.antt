@@ -1,16 +1,14 @@
 -- The loop stands where `Standing` says; each way out is a law of `Loop`.
-use Prim.Native.Nat.{ℕ, _+_, _-_, _*_, _≤_, _<_, _^_}
-use mathlib.Core.Path.{_≡_, refl, sym, ap, _∙_}
-use mathlib.Core.List.{List}
+use Prim.Native.Nat.{_-_}
+use mathlib.Core.Path.{_≡_, sym, ap, _∙_}
 use native.Mathlib.Omega.{arith}
 use borrow.Author.Needs.{needs}
-use lib.ListN.{length, drop, getD, set, length-set}
+use lib.ListN.{length}
 use Rattle.rules.specs.Lexing.{placesOf}
 use Rattle.token.specs.Table.{IsTable}
-use Rattle.rules.specs.Utf8.{firstBad}
 use Rattle.utf8.specs.Meaning.{checkedMeant}
 use Rattle.lexer.proofs.Standing.{Standing, standing-start, list-kinds, list-words}
-use Rattle.lexer.proofs.Loop.{fault-means, can-stop, can-stop-first, bad-inside, stop-small, stop-out, end-out, full-out, took-found, took-small, full-here, Took, can-write, can-advance, can-finish, less, goes-on, long-out, bad-out}
+use Rattle.lexer.proofs.Loop.{fault-means, can-stop, can-stop-first, bad-inside, stop-small, stop-out, end-out, full-out, took-found, took-small, full-here, can-write, can-advance, less, goes-on, long-out, bad-out}
 use Rattle.lexer.proofs.lexing.lex.Statement.{statement}
 use Rattle.lexer.proofs.lexing.lex.Tie as tie
 

@@ -1,5 +1,5 @@
 -- The class that the table has decides which rule is left.
-use mathlib.Core.Path.{_≡_, refl, sym, ap, _∙_}
+use mathlib.Core.Path.{sym, _∙_}
 use Rattle.lexer.proofs.Steps.{here-whitespace, here-control, here-digit, here-letter, here-punctuation, here-over-127, last-class}
 use native.Mathlib.Nat.{add-zero}
 use lib.ListN.{getD}

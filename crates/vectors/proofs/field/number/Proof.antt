@@ -1,5 +1,5 @@
 -- Nothing is asked of the number but that reading it ends and stays inside the line.
-use Prim.Native.Nat.{_≤_, _-_}
+use Prim.Native.Nat.{_-_}
 use lib.ListN.{length}
 use borrow.Author.Needs.{needs}
 use Rattle.vectors.proofs.field.number.Statement.{statement}
