@@ -1,5 +1,6 @@
 -- The scan has come over the blocks, and then to here; each turn is one more byte of it.
 use Prim.Native.Nat.{_-_}
+use Prim.Native.Char.{code}
 use lib.ListN.{length}
 use borrow.Author.Tests.{eq-eqb, ne-eqb}
 use Rattle.rules.specs.Bytes.{isNotLF}
@@ -26,7 +27,7 @@ shared-slice-read-if1 c = omega arith
 
 returns : tie.Need-returns Inv-loop μ-loop
 unfolding isNotLF
-returns c = stop (rw (eq-eqb _ _ (c .if1 .taken))) (c .before .before .before .loop .inv)
+returns c = stop (rw (eq-eqb _ (code "\n") (c .if1 .taken))) (c .before .before .before .loop .inv)
 
 add-i : tie.Need-add-i Inv-loop μ-loop
 add-i c = omega arith
@@ -36,7 +37,7 @@ loop-less c = omega arith
 
 loop-again : tie.Need-loop-again Inv-loop μ-loop
 unfolding isNotLF
-loop-again c = more (omega arith) (rw (ne-eqb _ _ (c .if1 .left))) (c .before .before .before .loop .inv)
+loop-again c = more (omega arith) (rw (ne-eqb _ (code "\n") (c .if1 .left))) (c .before .before .before .loop .inv)
 
 returns-2 : tie.Need-returns-2 Inv-loop μ-loop
 returns-2 c = done (omega arith) (c .before .loop .inv)
