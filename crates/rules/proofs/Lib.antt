@@ -17,6 +17,8 @@ pub mod Bounds
 pub mod Decimals
 -- the steps of a text as a loop meets them, and the lent arrays
 pub mod Trace
+-- lexemes in lent arrays, read back
+pub mod Listed
 -- the marked pairs and the worked texts
 pub mod Computes
 pub mod Marked

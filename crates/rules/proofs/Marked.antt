@@ -114,7 +114,9 @@ pub record WorkedTexts (doc : ℕ) : Type 0 where
       lexeme QuoteClose (span doc 11 12) ∷
       lexeme Semicolon (span doc 12 13) ∷ []
   pub tidied : respaced worked ≡ ascii "a = f\"{ b-1 }\" ;"
+  -- the gap rule's cases are in order: Blank first, so a comment before a Blank gets no LF
+  pub commented : respaced (ascii "x // c\n\ny//d\nz") ≡ ascii "x // c\n\ny //d\nz"
 
 pub worked-texts : (doc : ℕ) → WorkedTexts doc
 unfolding computes
-worked-texts doc = record { sizes = refl; bytes = refl; listing = refl; tidied = refl }
+worked-texts doc = record { sizes = refl; bytes = refl; listing = refl; tidied = refl; commented = refl }

@@ -1,6 +1,7 @@
 -- "Escapes are RFC 8259's single letters plus `\{` and `\}`; output is UTF-8."
 use Prim.Native.Nat.{ℕ, _+_, _-_, _*_}
 use Prim.Native.Char.{code}
+use mathlib.Core.Path.{_≡_}
 use mathlib.Core.List.{List, [], _∷_}
 use mathlib.Core.Bool.{Bool, cond, _&&_, _||_}
 use lib.Dec.{leb, ltb, eqb}
@@ -96,3 +97,8 @@ scalarPut s out at (given u) =
 
 unfoldable pub unescape : List ℕ → Span → (kind : ℕ) (out : List ℕ) (at : ℕ) → Unescaped
 unescape text s k out at = scalarPut s out at (escapeScalar text s k)
+
+-- what a call leaves, where its answer and the output after it are these
+pub record Unescapes (text : List ℕ) (s : Span) (kind : ℕ) (out : List ℕ) (at : ℕ) (answer : Answer ℕ) (out′ : List ℕ) : Type 0 where
+  pub answered : answer ≡ unescape text s kind out at .answer
+  pub output : out′ ≡ unescape text s kind out at .output

@@ -1,5 +1,6 @@
 -- "Parts list: from a QuoteOpen, depth 1."
 use Prim.Native.Nat.{ℕ, zero, suc, pred}
+use mathlib.Core.Path.{_≡_}
 use mathlib.Core.List.{List, [], _∷_}
 use mathlib.Core.Bool.{cond, _||_}
 use lib.Dec.{eqb}
@@ -94,3 +95,10 @@ unfoldable pub partsCall : (kinds words : List ℕ) (count place : ℕ) (partKin
 partsCall ks ws count place pks pws =
     let p = partsIn (placesOf pks pws) place (lexemesFrom ks ws count place) in
     record { answer = p .answer; parts = length (p .found); kinds = kindsWith (p .found) pks; words = wordsWith (p .found) pws }
+
+-- what a call leaves, where its answer, its count and the arrays after it are these
+pub record ListsParts (ks ws : List ℕ) (count place : ℕ) (pks pws : List ℕ) (answer : Answer ℕ) (parts : ℕ) (pks′ pws′ : List ℕ) : Type 0 where
+  pub answered : answer ≡ partsCall ks ws count place pks pws .answer
+  pub counted : parts ≡ partsCall ks ws count place pks pws .parts
+  pub kinds : pks′ ≡ partsCall ks ws count place pks pws .kinds
+  pub words : pws′ ≡ partsCall ks ws count place pks pws .words

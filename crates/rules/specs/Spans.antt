@@ -45,8 +45,11 @@ pub data Answer (A : Type 0) : Type 0 where
   refused : Refusal → Answer A
 
 -- a refusal without a note
+abbrev pub refusal : (number : ℕ) (at : Span) → Refusal
+refusal n s = record { number = n; at = s; note = none }
+
 abbrev pub refuse : {A : Type 0} → (number : ℕ) (at : Span) → Answer A
-refuse n s = refused (record { number = n; at = s; note = none })
+refuse n s = refused (refusal n s)
 
 -- nothing against it, or a refusal
 abbrev pub Verdict : Type 0

@@ -1,13 +1,14 @@
 -- "The gap rule and the tidy writer".
-use Prim.Native.Nat.{ℕ}
+use Prim.Native.Nat.{ℕ, _*_}
+use mathlib.Core.Path.{_≡_}
 use mathlib.Core.List.{List, [], _∷_, _++_}
 use mathlib.Core.Bool.{cond, _||_}
 use lib.Dec.{eqb}
-use lib.ListN.{length}
+use lib.ListN.{drop, length}
 use Rattle.rules.specs.Text.{ascii, join}
 use Rattle.rules.specs.Spans.{Verdict, given, refused}
 use Rattle.rules.specs.Kinds.{Blank, Shebang, LineComment, StringInner, HoleClose, isQuoteOpen, isEscape}
-use Rattle.rules.specs.Lexing.{Piece, trace, traceIn, lexemesOf, Lexeme, placed, listedOf, Lexed, lexedOf}
+use Rattle.rules.specs.Lexing.{Piece, trace, traceIn, lexemesOf, Lexeme, placed, listedOf, Lexed, lexedOf, placesOf, kindsWith, wordsWith, listing}
 use Rattle.rules.specs.Output.{endOf, Chunk, chunk, written, overwritten}
 use Rattle.rules.specs.Indent.{andThen}
 
@@ -65,3 +66,15 @@ tidying doc places stack text out =
       written = length (w .bytes);
       output = overwritten out 0 (w .bytes);
     }
+
+-- what a call leaves, of a list, a stack and an output lent to it: as `Lexes` says of lexing, and the output is that above
+pub record Tidies (doc : ℕ) (text ks ws sk sw out : List ℕ) (r : Lexed) (n : ℕ) (ks′ ws′ sk′ sw′ out′ : List ℕ) : Type 0 where
+  pub result : r ≡ tidying doc (placesOf ks ws) (placesOf sk sw) text out .lexed
+  pub written : n ≡ tidying doc (placesOf ks ws) (placesOf sk sw) text out .written
+  pub output : out′ ≡ tidying doc (placesOf ks ws) (placesOf sk sw) text out .output
+  pub kinds : ks′ ≡ kindsWith (listing doc (placesOf ks ws) (placesOf sk sw) text) ks
+  pub words : ws′ ≡ wordsWith (listing doc (placesOf ks ws) (placesOf sk sw) text) ws
+  pub stackKinds : drop (r .deepest) sk′ ≡ drop (r .deepest) sk
+  pub stackWords : drop (r .deepest * 2) sw′ ≡ drop (r .deepest * 2) sw
+  pub stackKindsLength : length sk′ ≡ length sk
+  pub stackWordsLength : length sw′ ≡ length sw

@@ -1,5 +1,6 @@
 -- "Value": String and Escape parts in order; and handing it back.
 use Prim.Native.Nat.{ℕ, _+_, min}
+use mathlib.Core.Path.{_≡_}
 use mathlib.Core.List.{List, [], _∷_, _++_}
 use mathlib.Core.Bool.{Bool, false, cond, _&&_}
 use lib.Dec.{eqb}
@@ -105,6 +106,14 @@ valueCall text ks ws count place pks pws out at =
       output = v .output;
     }
 
+-- what a call leaves, where its answer, its count and the arrays after it are these
+pub record Values (text ks ws : List ℕ) (count place : ℕ) (pks pws out : List ℕ) (at : ℕ) (answer : Answer Where) (parts : ℕ) (pks′ pws′ out′ : List ℕ) : Type 0 where
+  pub answered : answer ≡ valueCall text ks ws count place pks pws out at .answer
+  pub counted : parts ≡ valueCall text ks ws count place pks pws out at .parts
+  pub kinds : pks′ ≡ valueCall text ks ws count place pks pws out at .kinds
+  pub words : pws′ ≡ valueCall text ks ws count place pks pws out at .words
+  pub output : out′ ≡ valueCall text ks ws count place pks pws out at .output
+
 -- "Handing back": "a check gives 3, then 40 for a part outside its slice"
 unfoldable pub handedPart : (text out : List ℕ) → Where → Answer (List ℕ)
 handedPart text out (inText a e) = resolved text (span 0 a e)
@@ -120,3 +129,8 @@ orEmpty (refused r) = []
 
 abbrev pub handed : (text out : List ℕ) → Where → List ℕ
 handed text out p = orEmpty (handedPart text out p)
+
+-- what the check says and the handing call returns
+pub record HandsBack (text out : List ℕ) (p : Where) (verdict : Verdict) (bytes : List ℕ) : Type 0 where
+  pub checked : verdict ≡ handCheck text out p
+  pub returned : bytes ≡ handed text out p
