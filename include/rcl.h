@@ -3,6 +3,7 @@
 #ifndef RCL_H
 #define RCL_H
 
+#include <stdbool.h>
 #include <stdint.h>
 
 #ifdef __cplusplus
@@ -35,6 +36,77 @@ typedef struct rcl_lexed {
 rcl_lexed rcl_lex(uint32_t doc, const uint8_t *text, uintptr_t len,
                   uint8_t *kinds, uintptr_t kinds_len, uint64_t *words, uintptr_t words_len,
                   uint8_t *stack_kinds, uintptr_t stack_kinds_len, uint64_t *stack_words, uintptr_t stack_words_len);
+
+/* Whether `len` bytes are an identifier (a letter or `_`, then letters, digits, `_` and `-`, no `-` at the end, no keyword), and whether they are a keyword. Neither refuses anything. */
+bool rcl_is_identifier(const uint8_t *bytes, uintptr_t len);
+bool rcl_is_keyword(const uint8_t *bytes, uintptr_t len);
+
+/* A number, or a refusal. In this and the next two structs what is not said is 0; a refusal of these calls has no note. */
+typedef struct rcl_answer {
+    uint64_t refused;            /* 0: `count` is the answer; 1: refused */
+    uint64_t number;             /* the refusal's number */
+    uint64_t low, high;          /* its span */
+    uint64_t count;
+} rcl_answer;
+
+/* The scalar value of the escape sequence of kind `kind` (11 to 13) at the span `low`, `high` of the text.
+   Refusals, in this order: 3 start after end, 40 wrong kind or form or outside the text, 43 no digit, 44 over 6 digits, 45 surrogate or over 0x10FFFF, 41 unknown, 42 a capital. */
+rcl_answer rcl_scalar_value(const uint8_t *text, uintptr_t len, uint64_t low, uint64_t high, uint8_t kind);
+
+/* Writes its UTF-8 to `output` (`output_len` bytes, of which at most 2^48 - 1 count) at `position`, whole or not at all; `count` is the bytes written.
+   Refusals: as above, then 46 where it does not fit. Every other place of the output is untouched. */
+rcl_answer rcl_unescape_into(const uint8_t *text, uintptr_t len, uint64_t low, uint64_t high, uint8_t kind,
+                             uint8_t *output, uintptr_t output_len, uintptr_t position);
+
+/* The indent of a parts list with `parts` parts (or as many as it has places): over String parts that begin with LF, the fewest spaces after it; 0 where there is no such part.
+   Refusals, part by part: 3, then 40 for a kind outside 10 to 14 or a span outside the text. */
+rcl_answer rcl_count_common_leading_spaces(const uint8_t *text, uintptr_t len,
+                                           const uint8_t *kinds, uintptr_t kinds_len, const uint64_t *words, uintptr_t words_len, uintptr_t parts);
+
+/* The parts of a string. */
+typedef struct rcl_parted {
+    uint64_t refused, number, low, high;
+    uint64_t closer;             /* the closing quote's place in the list */
+    uint64_t parts;              /* how many parts were put, also where refused */
+} rcl_parted;
+
+/* Lists the parts of the string whose QuoteOpen stands at `place` of a list of `lexemes` lexemes (or as many as it has places): kinds 10 to 14 and spans, a hole as one part of kind 14.
+   Refusals, lexeme by lexeme: 3, 50 no string, 31 the parts list is full. The parts list holds the `parts` parts found, and every place after them is untouched. */
+rcl_parted rcl_parts(const uint8_t *kinds, uintptr_t kinds_len, const uint64_t *words, uintptr_t words_len, uintptr_t lexemes, uintptr_t place,
+                     uint8_t *part_kinds, uintptr_t part_kinds_len, uint64_t *part_words, uintptr_t part_words_len);
+
+/* The value of a string. */
+typedef struct rcl_valued {
+    uint64_t refused, number, low, high;
+    uint64_t in_output;          /* 0: the value is the text's bytes from `start` to `end`; 1: the output's */
+    uint64_t start, end;
+    uint64_t parts;              /* how many parts were put into the parts list, also where refused */
+} rcl_valued;
+
+/* The value of that string: its parts are listed as by rcl_parts, then String and Escape parts are written to `output` from `position` on, each whole or not at all; in triple quotes the indent is
+   taken off; holes give no byte. A string that is one unbroken String part is answered as that part of the text, and the output is neither read nor written.
+   Refusals: as of rcl_parts, of the indent, of escapes, each over the whole string before a byte is written, then 46. After a refusal the output holds the pieces before it. */
+rcl_valued rcl_value(const uint8_t *text, uintptr_t len,
+                     const uint8_t *kinds, uintptr_t kinds_len, const uint64_t *words, uintptr_t words_len, uintptr_t lexemes, uintptr_t place,
+                     uint8_t *part_kinds, uintptr_t part_kinds_len, uint64_t *part_words, uintptr_t part_words_len,
+                     uint8_t *output, uintptr_t output_len, uintptr_t position);
+
+/* Handing a value back: the check of a part, `which` (0: of the text; any other: of the output), `start` and `end` as rcl_value answered them. Both arrays are only read.
+   Refusals: 3 where the start is after the end or the end over 2^48 - 1, then 40 for a part outside its array; `count` is 0. */
+rcl_answer rcl_hand_check(const uint8_t *text, uintptr_t len, const uint8_t *output, uintptr_t output_len, uint64_t which, uintptr_t start, uintptr_t end);
+
+/* What the tidy writer answers: as rcl_lex, with 46 where the output is full, and the bytes written. */
+typedef struct rcl_tidied {
+    rcl_lexed lexed;
+    uint64_t written;
+} rcl_tidied;
+
+/* Lexes a text as rcl_lex does, into a lent list with a lent stack, then writes its lexemes with the gap rule's gaps to `output`, from its start. A gap and the lexeme after it are written whole or not.
+   Refusals: those of rcl_lex first (nothing is then written), then 46. */
+rcl_tidied rcl_tidy(uint32_t doc, const uint8_t *text, uintptr_t len,
+                    uint8_t *kinds, uintptr_t kinds_len, uint64_t *words, uintptr_t words_len,
+                    uint8_t *stack_kinds, uintptr_t stack_kinds_len, uint64_t *stack_words, uintptr_t stack_words_len,
+                    uint8_t *output, uintptr_t output_len);
 
 #ifdef __cplusplus
 }

@@ -1,13 +1,16 @@
 //! `rcl_lex` beside the published lexer: the answer, the list, and what the call
 //! may not touch.
 
+mod calls;
+
 use std::process::ExitCode;
 
+use calls::{rcl_lex, Lexed};
 use judge::arguments::{arguments, Arguments};
 use judge::generate::random::Random;
 use judge::generate::{nested, rfc8259, Texts};
+use judge::lent::{lengths, Lengths, Lent, LentText};
 use judge::reference::{trace, within, Answer, Counts, Trace};
-use judge::refusal::Refusal;
 use judge::report::{expected_and_found, Ends, Report};
 use judge::source::{words, DocId, Span};
 
@@ -26,215 +29,26 @@ const ALL_SIZES: usize = 24;
 /// With more, so many pairs are picked.
 const PICKED_SIZES: usize = 3;
 
-/// Cells before and after each lent array, which must keep what they hold.
-const GUARD: usize = 16;
-
-// The call.
-
-/// `rcl_lexed` of include/rcl.h.
-#[repr(C)]
-#[derive(Copy, Clone, Debug, Default, Eq, PartialEq)]
-struct Lexed {
-    refused: u64,
-    number: u64,
-    low: u64,
-    high: u64,
-    noted: u64,
-    note_low: u64,
-    note_high: u64,
-    lexemes: u64,
-    steps: u64,
-    kept: u64,
-    dropped: u64,
-    deepest: u64,
-}
-
-extern "C" {
-    fn rcl_lex(
-        doc: u32,
-        text: *const u8,
-        len: usize,
-        kinds: *mut u8,
-        kinds_len: usize,
-        words: *mut u64,
-        words_len: usize,
-        stack_kinds: *mut u8,
-        stack_kinds_len: usize,
-        stack_words: *mut u64,
-        stack_words_len: usize,
-    ) -> Lexed;
-}
-
-/// The words that the answer must come back in: 0 where there is nothing to say.
-fn in_words(answer: &Answer) -> Lexed {
-    let Counts {
-        lexemes,
-        steps,
-        kept,
-        dropped,
-        deepest,
-    } = answer.counts;
-    let counted = Lexed {
-        lexemes: lexemes as u64,
-        steps: steps as u64,
-        kept: kept as u64,
-        dropped: dropped as u64,
-        deepest: deepest as u64,
-        ..Lexed::default()
-    };
-    match answer.refusal {
-        None => counted,
-        Some(refusal) => refused(counted, refusal),
-    }
-}
-
-fn refused(counted: Lexed, refusal: Refusal) -> Lexed {
-    let (low, high) = words::of(refusal.span);
-    let (note_low, note_high) = refusal.note.map_or((0, 0), words::of);
-    Lexed {
-        refused: 1,
-        number: refusal.number as u64,
-        low,
-        high,
-        noted: refusal.note.is_some() as u64,
-        note_low,
-        note_high,
-        ..counted
-    }
-}
-
 // What is lent.
-
-/// A cell of a lent array, and what it holds before the call.
-trait Cell: Copy + PartialEq + std::fmt::Debug {
-    fn pattern(salt: u64, at: usize) -> Self;
-}
-
-impl Cell for u8 {
-    fn pattern(salt: u64, at: usize) -> u8 {
-        (salt as u8).wrapping_add((at as u8).wrapping_mul(37))
-    }
-}
-
-impl Cell for u64 {
-    fn pattern(salt: u64, at: usize) -> u64 {
-        (salt ^ at as u64).wrapping_mul(0x9e37_79b9_7f4a_7c15)
-    }
-}
-
-/// An array with guards on both sides, filled with a pattern.
-struct Lent<T> {
-    name: &'static str,
-    salt: u64,
-    cells: Vec<T>,
-}
-
-impl<T: Cell> Lent<T> {
-    fn new(name: &'static str) -> Lent<T> {
-        Lent {
-            name,
-            salt: 0,
-            cells: Vec::new(),
-        }
-    }
-
-    fn fill(&mut self, salt: u64, len: usize) {
-        self.salt = salt;
-        self.cells.clear();
-        self.cells
-            .extend((0..GUARD + len + GUARD).map(|at| T::pattern(salt, at)));
-    }
-
-    fn len(&self) -> usize {
-        self.cells.len() - 2 * GUARD
-    }
-
-    fn pointer(&mut self) -> *mut T {
-        self.cells[GUARD..].as_mut_ptr()
-    }
-
-    /// What is wrong unless the array begins with `expected` and every other
-    /// cell holds the pattern.
-    fn wrong_after(&self, expected: impl ExactSizeIterator<Item = T>) -> Option<String> {
-        let begun = GUARD + expected.len();
-        self.touched(0, GUARD)
-            .or_else(|| self.wrong_from(GUARD, expected))
-            .or_else(|| self.touched(begun, self.cells.len()))
-    }
-
-    /// The same where the first `free` cells may hold anything.
-    fn wrong_beyond(&self, free: usize) -> Option<String> {
-        self.touched(0, GUARD)
-            .or_else(|| self.touched(GUARD + free, self.cells.len()))
-    }
-
-    fn touched(&self, from: usize, to: usize) -> Option<String> {
-        self.wrong_from(from, (from..to).map(|at| T::pattern(self.salt, at)))
-    }
-
-    fn wrong_from(&self, from: usize, expected: impl Iterator<Item = T>) -> Option<String> {
-        let mut pairs = self.cells[from..].iter().zip(expected);
-        let at = pairs.position(|(found, expected)| *found != expected)?;
-        let cell = from + at;
-        let (name, place) = (self.name, cell as isize - GUARD as isize);
-        let (len, holds) = (self.len(), self.cells[cell]);
-        Some(format!("  {name} of {len}, place {place} holds {holds:?}"))
-    }
-}
-
-/// The lengths of the two arrays of a list or stack.
-#[derive(Copy, Clone, Debug)]
-struct Lengths {
-    kinds: usize,
-    words: usize,
-}
-
-/// Lengths that make so many places: often odd, or one array longer than the
-/// other needs.
-fn lengths(random: &mut Random, places: usize) -> Lengths {
-    let more = random.between(1, 9);
-    let odd = random.below(2);
-    let (kinds, words) = match random.below(4) {
-        0 => (places, 2 * places),
-        1 => (places, 2 * places + 1),
-        2 => (places, 2 * places + more),
-        _ => (places + more, 2 * places + odd),
-    };
-    Lengths { kinds, words }
-}
 
 /// The text, its surroundings, and the four arrays, used again for each call.
 struct Room {
-    bytes: Vec<u8>,
+    text: LentText,
     kinds: Lent<u8>,
     words: Lent<u64>,
     stack_kinds: Lent<u8>,
     stack_words: Lent<u64>,
 }
 
-/// Bytes that would change the last lexeme if they were read.
-const BEYOND: &[u8] = b"\"}1a_-\\)]{.u\xa9\n=/e";
-
 impl Room {
     fn new() -> Room {
         Room {
-            bytes: Vec::new(),
+            text: LentText::new(),
             kinds: Lent::new("kinds"),
             words: Lent::new("words"),
             stack_kinds: Lent::new("stack_kinds"),
             stack_words: Lent::new("stack_words"),
         }
-    }
-
-    /// The text at some alignment, with bytes before and behind it.
-    fn put_text(&mut self, random: &mut Random, text: &[u8]) -> usize {
-        let shift = random.below(32);
-        let beyond = BEYOND[random.below(BEYOND.len())];
-        self.bytes.clear();
-        self.bytes.resize(shift, beyond);
-        self.bytes.extend_from_slice(text);
-        self.bytes.extend([beyond; 32]);
-        shift
     }
 
     fn fill(&mut self, random: &mut Random, list: Lengths, stack: Lengths) {
@@ -244,13 +58,13 @@ impl Room {
         self.stack_words.fill(random.next(), stack.words);
     }
 
-    fn call(&mut self, doc: DocId, shift: usize, len: usize) -> Lexed {
+    fn call(&mut self, doc: DocId, len: usize) -> Lexed {
         // Each pointer is that of a live array with at least the length passed
         // beside it, and no two overlap.
         unsafe {
             rcl_lex(
                 doc.0,
-                self.bytes[shift..].as_ptr(),
+                self.text.pointer(),
                 len,
                 self.kinds.pointer(),
                 self.kinds.len(),
@@ -390,10 +204,10 @@ impl Comparison {
         (list, stack): (Lengths, Lengths),
     ) -> Option<String> {
         let room = &mut self.room;
-        let shift = room.put_text(&mut self.random, text);
+        room.text.put(&mut self.random, text);
         room.fill(&mut self.random, list, stack);
-        let found = room.call(doc, shift, text.len());
-        let expected = in_words(answer);
+        let found = room.call(doc, text.len());
+        let expected = Lexed::of(answer);
         if found != expected {
             return Some(expected_and_found(&expected, &found));
         }

@@ -3,14 +3,17 @@
 use crate::lexer::{Escape, QuoteStyle, StringPrefix, Token};
 
 pub const SPACE: u8 = 0;
+pub const BLANK: u8 = 1;
+pub const SHEBANG: u8 = 2;
+pub const LINE_COMMENT: u8 = 3;
 
 /// The code of a token. `Eof` has none, and the lexer never returns it.
 pub fn code(token: Token) -> u8 {
     match token {
         Token::Space => SPACE,
-        Token::Blank => 1,
-        Token::Shebang => 2,
-        Token::LineComment => 3,
+        Token::Blank => BLANK,
+        Token::Shebang => SHEBANG,
+        Token::LineComment => LINE_COMMENT,
         Token::Ident => 4,
         Token::QuoteOpen(prefix, style) => quote_open(prefix, style),
         Token::QuoteClose => 9,

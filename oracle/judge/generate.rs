@@ -1,13 +1,20 @@
 //! Texts to compare on: the same ones for the same seed.
 
+pub mod accepted;
+pub mod cases;
+pub mod chosen;
 mod contexts;
 mod damage;
+pub mod escapes;
 pub mod exhaustive;
 pub mod fixed;
 mod grammar;
 pub mod nested;
+pub mod parts;
 pub mod random;
 pub mod rfc8259;
+pub mod spaced;
+pub mod strings;
 pub mod utf8;
 
 use exhaustive::Exhaustive;

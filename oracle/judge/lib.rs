@@ -13,9 +13,12 @@ pub mod string;
 pub mod arguments;
 pub mod codes;
 pub mod generate;
+pub mod lent;
 pub mod reference;
 pub mod refusal;
 pub mod report;
+pub mod respace;
+pub mod strings;
 
 #[cfg(test)]
 mod marked;

@@ -1,10 +1,16 @@
 //! The judge held to the examples that document 01 works out by hand.
 
+use crate::generate::chosen::MARKED;
 use crate::lexer::Escape;
-use crate::reference::{answer, Answer, Counts, AMPLE};
+use crate::reference::{answer, trace, Answer, Counts, AMPLE};
 use crate::refusal::{of_escape, Refusal};
+use crate::respace::{respaced, tidied};
 use crate::source::{words, DocId, Span};
 use crate::string::unescape_into;
+use crate::strings::case::Case;
+use crate::strings::hand::{handed, handed_or_empty};
+use crate::strings::value::Held;
+use crate::strings::{Refused, Words, LONGEST, NOWHERE};
 
 const DOC: DocId = DocId(7);
 
@@ -96,8 +102,24 @@ fn escapes() {
 }
 
 #[test]
+fn values() {
+    for (text, expected) in MARKED {
+        let case = Case::lexed(text, DOC.0, 0);
+        let mut output = vec![0; case.output];
+        let found = match case.valued(&mut output).value {
+            Ok(Held::Output { start, end }) => Ok(&output[start as usize..end as usize]),
+            Ok(Held::Text { .. }) => panic!("An escape is no part of the text."),
+            Err(refused) => Err(refused.number),
+        };
+        assert_eq!(found, expected, "{:?}", text);
+    }
+}
+
+#[test]
 fn packing() {
     let span = Span::new(DocId(2), 1, 3);
+    assert_eq!(Words::new(2, 1, 3).low, 844424930131969);
+    assert_eq!(Words::new(2, 1, 3).high, 8589934592);
     assert_eq!(words::of(span), (844424930131969, 8589934592));
     assert_eq!(words::to_span(844424930131969, 8589934592), span);
 }
@@ -111,4 +133,46 @@ fn little_memory() {
     assert_eq!(refusal(1, 1), Refusal::plain(31, span(2, 3)));
     assert_eq!(refusal(4, 1), Refusal::plain(23, span(6, 7)));
     assert_eq!(answer(text, DOC, 1, 0).counts.steps, 2);
+}
+
+#[test]
+fn tidying() {
+    let (text, expected) = (b"a = f\"{b-1}\";", b"a = f\"{ b-1 }\" ;");
+    assert_eq!(respaced(text, &lexed(text).listed), expected);
+    assert_eq!(respaced(expected, &lexed(expected).listed), expected);
+    let mut output = [0; 17];
+    let whole = tidied(text, &trace(text, DOC), 8, 2, &mut output);
+    assert_eq!((whole.answer.refusal, whole.written), (None, 16));
+    assert_eq!(output, *b"a = f\"{ b-1 }\" ;\0");
+    let mut output = [0; 15];
+    let short = tidied(text, &trace(text, DOC), 8, 2, &mut output);
+    let refusal = Refusal::plain(46, span(12, 13));
+    assert_eq!((short.answer.refusal, short.written), (Some(refusal), 14));
+    assert_eq!(output, *b"a = f\"{ b-1 }\"\0");
+    let full = tidied(text, &trace(text, DOC), 7, 2, &mut output);
+    let refusal = Refusal::plain(31, span(12, 13));
+    assert_eq!((full.answer.refusal, full.written), (Some(refusal), 0));
+}
+
+#[test]
+fn gaps() {
+    let spaced = |text: &[u8]| respaced(text, &lexed(text).listed);
+    assert_eq!(spaced(b" // c\n\nx"), b"// c\n\nx");
+    assert_eq!(spaced(b"// c\nx\n"), b"// c\nx");
+    assert_eq!(spaced(b"#!\n//"), b"#!\n//");
+    assert_eq!(spaced(b"f\"{}\\n{}\""), b"f\"{ }\\n{ }\"");
+}
+
+#[test]
+fn handing_back() {
+    let check = |part| handed(b"abc", b"xy", part);
+    let text = |start, end| Held::Text { start, end };
+    let output = |start, end| Held::Output { start, end };
+    assert_eq!(check(text(1, 3)), Ok(&b"bc"[..]));
+    assert_eq!(check(output(2, 2)), Ok(&b""[..]));
+    assert_eq!(check(text(3, 2)), Err(Refused::new(3, NOWHERE)));
+    assert_eq!(check(text(0, LONGEST + 1)), Err(Refused::new(3, NOWHERE)));
+    let outside = Refused::new(40, Words::new(0, 1, 3));
+    assert_eq!(check(output(1, 3)), Err(outside));
+    assert_eq!(handed_or_empty(b"abc", b"xy", output(1, 3)), b"");
 }

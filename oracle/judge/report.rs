@@ -28,8 +28,8 @@ impl Damage for Answer {
 pub struct Report {
     compared: u64,
     differences: u64,
-    /// The shortest text that differed: the one to look at first.
-    smallest: Option<Vec<u8>>,
+    /// The shortest text or call that differed, with its size: the one to look at first.
+    smallest: Option<(usize, String)>,
     /// One expected answer is still to be made wrong.
     damage_due: bool,
 }
@@ -66,26 +66,31 @@ impl Report {
 
     /// Counts one comparison; `wrong` says what differed, if anything did.
     pub fn record(&mut self, text: &[u8], wrong: Option<String>) {
+        self.record_call(text.len(), || format!("`{}`", text.escape_ascii()), wrong);
+    }
+
+    /// The same for a call that is more than a text: its size, and how it is named.
+    pub fn record_call(&mut self, size: usize, name: impl Fn() -> String, wrong: Option<String>) {
         self.compared += 1;
         if let Some(wrong) = wrong {
-            self.different(text, &wrong);
+            self.different(size, name(), &wrong);
         }
     }
 
-    fn different(&mut self, text: &[u8], wrong: &str) {
+    fn different(&mut self, size: usize, name: String, wrong: &str) {
         self.differences += 1;
         if self.differences <= SHOWN {
-            println!("difference on `{}`\n{wrong}", text.escape_ascii());
+            println!("difference on {name}\n{wrong}");
         }
-        if self.smallest.as_ref().is_none_or(|s| text.len() < s.len()) {
-            self.smallest = Some(text.to_vec());
+        if self.smallest.as_ref().is_none_or(|s| size < s.0) {
+            self.smallest = Some((size, name));
         }
     }
 
     /// The last lines, and the exit status: 1 where anything differed.
     pub fn finish(self) -> ExitCode {
-        if let Some(text) = &self.smallest {
-            println!("shortest text that differs: `{}`", text.escape_ascii());
+        if let Some((_, name)) = &self.smallest {
+            println!("shortest that differs: {name}");
         }
         println!("{} compared", self.compared);
         println!("{} differences", self.differences);
@@ -109,14 +114,28 @@ impl Ends {
     }
 
     pub fn add(&mut self, answer: &Answer) {
-        self.counts[answer.refusal.map_or(0, |r| r.number) as usize] += 1;
+        self.add_number(answer.refusal.map_or(0, |r| r.number));
+    }
+
+    /// A call that was refused with this number, or accepted: 0.
+    pub fn add_number(&mut self, number: u8) {
+        self.counts[number as usize] += 1;
     }
 
     /// Each refusal that lexing can give, also where it was never reached.
     pub fn print(&self) {
         println!("accepted: {}", self.counts[0]);
-        for number in std::iter::once(1).chain(10..=28).chain(30..=31) {
+        self.print_refusals(std::iter::once(1).chain(10..=28).chain(30..=31));
+    }
+
+    /// The same for calls that can give these refusals.
+    pub fn print_refusals(&self, numbers: impl Iterator<Item = usize>) {
+        for number in numbers {
             println!("refusal {number}: {}", self.counts[number]);
         }
+    }
+
+    pub fn accepted(&self) -> u64 {
+        self.counts[0]
     }
 }

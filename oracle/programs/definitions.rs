@@ -1,8 +1,10 @@
 //! Writes the crate of cases: for each text a theorem that the definitions give
 //! the judge's answer, which the prover decides by computing.
-//!   definitions [--self-test] N SEED SPECS OUT INDEX
-//! SPECS is the folder of the definitions, OUT the one for the cases' modules,
-//! INDEX the file that says which text each case is about.
+//!   definitions [--self-test] N SEED WHAT SPECS OUT INDEX
+//! WHAT is `lexing` or `strings`, SPECS the folder of the definitions, OUT the one for
+//! the cases' modules, INDEX the file that says what each case is about.
+
+mod strings;
 
 use std::fmt::Write;
 use std::path::{Path, PathBuf};
@@ -11,9 +13,10 @@ use judge::arguments::{arguments, Arguments};
 use judge::generate::random::Random;
 use judge::generate::Texts;
 use judge::reference::{trace, within, Answer, Listed, Trace};
-use judge::refusal::Refusal;
 use judge::report::Damage;
-use judge::source::{DocId, Span};
+use judge::source::DocId;
+use strings::theorems::{self, verdict, written_span};
+use strings::Call;
 
 /// The prover computes slowly, so the texts are short.
 const LONGEST: usize = 60;
@@ -135,10 +138,6 @@ abbrev stop : (number : ℕ) → Span → Option Span → Verdict
 stop n s note = refused (record { number = n; at = s; note = note })
 ";
 
-fn written_span(span: Span) -> String {
-    format!("(span {} {} {})", span.doc().0, span.start(), span.end())
-}
-
 fn written_list(items: impl Iterator<Item = String>) -> String {
     let mut out = String::new();
     for item in items {
@@ -157,24 +156,9 @@ fn written_lexemes(listed: &[Listed]) -> String {
     written_list(listed.iter().map(lexeme))
 }
 
-fn written_verdict(refusal: Option<Refusal>) -> String {
-    let Some(refusal) = refusal else {
-        return "accepted".to_string();
-    };
-    let note = match refusal.note {
-        Some(span) => format!("(some {})", written_span(span)),
-        None => "none".to_string(),
-    };
-    format!(
-        "(stop {} {} {note})",
-        refusal.number,
-        written_span(refusal.span)
-    )
-}
-
 fn written_answer(answer: &Answer) -> String {
     let c = answer.counts;
-    let verdict = written_verdict(answer.refusal);
+    let verdict = verdict(answer.refusal);
     format!(
         "lexed {verdict} {} {} {} {} {}",
         c.lexemes, c.steps, c.kept, c.dropped, c.deepest
@@ -200,13 +184,12 @@ fn indexed(name: &str, case: &Case) -> String {
     format!("{name} {len} bytes `{text}`, id {doc}, list places {list}, stack places {stack}\n")
 }
 
-/// How many cases end with each refusal; place 0 holds the accepted ones.
-fn print_counts(cases: &[Case]) {
+/// How many cases end with each refusal, and how many with none: 0.
+fn print_counts(numbers: impl Iterator<Item = u8>) {
     let mut ends = [0; 64];
-    for case in cases {
-        ends[case.answer.refusal.map_or(0, |r| r.number) as usize] += 1;
+    for number in numbers {
+        ends[number as usize] += 1;
     }
-    println!("{} texts, {} cases", cases.len() / 2, cases.len());
     println!("accepted: {}", ends[0]);
     let reached = ends
         .iter()
@@ -229,28 +212,83 @@ fn generated(arguments: &Arguments) -> Vec<Case> {
     cases
 }
 
+/// One theorem with its name, and the index's line about it.
+struct Written {
+    theorem: String,
+    index: String,
+}
+
+fn lexing_modules(arguments: &Arguments) -> Vec<Vec<Written>> {
+    let cases = generated(arguments);
+    println!("{} texts, {} cases", cases.len() / 2, cases.len());
+    print_counts(
+        cases
+            .iter()
+            .map(|case| case.answer.refusal.map_or(0, |r| r.number)),
+    );
+    in_modules(&cases, 2 * PER_MODULE, |name, case| Written {
+        theorem: written_case(name, case),
+        index: indexed(name, case),
+    })
+}
+
+fn string_modules(arguments: &Arguments) -> Vec<Vec<Written>> {
+    let calls = strings::calls(arguments.seed, arguments.count);
+    println!("{} calls on strings", calls.len());
+    print_counts(calls.iter().map(Call::number));
+    let mut equations: Vec<_> = calls.iter().map(theorems::equation).collect();
+    if arguments.self_test {
+        theorems::damage(&mut equations);
+    }
+    let pairs: Vec<_> = calls.iter().zip(&equations).collect();
+    in_modules(&pairs, PER_MODULE, |name, (call, equation)| Written {
+        theorem: theorems::theorem(name, equation),
+        index: format!(
+            "{name} {} bytes and lexemes: {}\n",
+            call.size(),
+            call.line().0
+        ),
+    })
+}
+
+/// So many to a module, each with its name.
+fn in_modules<T>(
+    items: &[T],
+    per_module: usize,
+    written: impl Fn(&str, &T) -> Written,
+) -> Vec<Vec<Written>> {
+    let module = |(number, chunk): (usize, &[T])| {
+        let places = chunk.iter().enumerate();
+        let case = |(place, item)| written(&format!("case-{number}-{place}"), item);
+        places.map(case).collect()
+    };
+    items.chunks(per_module).enumerate().map(module).collect()
+}
+
 fn write(path: PathBuf, content: &str) {
     std::fs::write(&path, content).unwrap_or_else(|e| panic!("{}: {e}", path.display()));
 }
 
 fn main() {
-    let arguments = arguments("definitions [--self-test] N SEED SPECS OUT INDEX");
-    let [specs, out, index_file] = [0, 1, 2].map(|at| Path::new(&arguments.rest[at]));
-    let cases = generated(&arguments);
+    let arguments = arguments("definitions [--self-test] N SEED WHAT SPECS OUT INDEX");
+    let [what, specs, out, index_file] = [0, 1, 2, 3].map(|at| &arguments.rest[at][..]);
+    let (header, modules) = match what {
+        "strings" => (theorems::HEADER, string_modules(&arguments)),
+        _ => (HEADER, lexing_modules(&arguments)),
+    };
+    let out = Path::new(out);
     let mut root = String::from("pub mod Computes\n");
     let mut index = String::new();
-    for (number, chunk) in cases.chunks(2 * PER_MODULE).enumerate() {
-        let mut module = HEADER.to_string();
-        for (place, case) in chunk.iter().enumerate() {
-            let name = format!("case-{number}-{place}");
-            module.push_str(&written_case(&name, case));
-            index.push_str(&indexed(&name, case));
-        }
-        write(out.join(format!("Cases{number}.antt")), &module);
+    for (number, module) in modules.iter().enumerate() {
+        let theorems: String = module.iter().map(|written| &written.theorem[..]).collect();
+        write(
+            out.join(format!("Cases{number}.antt")),
+            &format!("{header}{theorems}"),
+        );
         writeln!(root, "pub mod Cases{number}").unwrap();
+        index.extend(module.iter().map(|written| &written.index[..]));
     }
-    write(out.join("Computes.antt"), &computes(specs));
+    write(out.join("Computes.antt"), &computes(Path::new(specs)));
     write(out.join("Lib.antt"), &root);
-    write(index_file.to_path_buf(), &index);
-    print_counts(&cases);
+    write(PathBuf::from(index_file), &index);
 }

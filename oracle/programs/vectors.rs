@@ -1,6 +1,8 @@
 //! Writes the fixed list that the gate's program `vectors` replays: the calls to one file, the answers to another, line for line.
 //! oracle/README.md describes the lines.
 
+mod strings;
+
 use std::collections::HashSet;
 use std::fs::File;
 use std::io::{BufWriter, Write};
@@ -8,11 +10,12 @@ use std::io::{BufWriter, Write};
 use judge::generate::random::Random;
 use judge::generate::{fixed, nested, rfc8259, utf8, Texts};
 use judge::reference::{trace, within, Answer, Counts, Listed};
-use judge::refusal::Refusal;
 use judge::source::{words, DocId, Span};
+use strings::tidy::{verdict_and_counts, written};
+use strings::{hexadecimal, Line};
 
 const MADE: &str =
-    "# Made by oracle/vectors from the published Rust (ruuda/rcl, 9f705cc6dd) and its std.";
+    "# Made by oracle/vectors from the published Rust (ruuda/rcl, 9f705cc6dd), its std and document 01.";
 
 fn main() {
     let names: Vec<String> = std::env::args().skip(1).collect();
@@ -23,6 +26,7 @@ fn main() {
     lines.extend(utf8_texts().iter().map(|text| utf8_line(text)));
     lines.extend(span_lines());
     lines.extend(lex_lines());
+    lines.extend(string_lines());
     let lines = without_repeats(lines);
     write_lines(calls, lines.iter().map(|line| &line.0));
     write_lines(answers, lines.iter().map(|line| &line.1));
@@ -34,9 +38,6 @@ fn write_lines<'a>(name: &str, lines: impl Iterator<Item = &'a String>) {
         writeln!(file, "{line}").expect("The line can be written.");
     }
 }
-
-/// A call, and its answer.
-type Line = (String, String);
 
 fn without_repeats(lines: Vec<Line>) -> Vec<Line> {
     let mut seen = HashSet::new();
@@ -53,13 +54,6 @@ fn utf8_line(text: &[u8]) -> Line {
         Err(error) => error.valid_up_to().to_string(),
     };
     (format!("utf8 {}", hexadecimal(text)), answer)
-}
-
-fn hexadecimal(text: &[u8]) -> String {
-    match text {
-        [] => "-".to_string(),
-        _ => text.iter().map(|byte| format!("{byte:02x}")).collect(),
-    }
 }
 
 fn utf8_texts() -> Vec<Vec<u8>> {
@@ -134,11 +128,6 @@ fn packed(doc: u32, start: u64, end: u64) -> Span {
 
 fn is_bad(span: Span) -> bool {
     span.start() > span.end()
-}
-
-fn written(span: Span) -> String {
-    let (low, high) = words::of(span);
-    format!("{low} {high}")
 }
 
 fn span_lines() -> Vec<Line> {
@@ -372,29 +361,20 @@ fn lex_line(doc: DocId, list: usize, stack: usize, text: &[u8]) -> Option<Line> 
 }
 
 fn written_answer(answer: &Answer) -> String {
-    let verdict = match answer.refusal {
-        None => "accepted".to_string(),
-        Some(refusal) => written_refusal(refusal),
-    };
-    let Counts {
-        lexemes,
-        steps,
-        kept,
-        dropped,
-        deepest,
-    } = answer.counts;
     let listed: String = answer.listed.iter().map(written_lexeme).collect();
-    format!("{verdict} ; {lexemes} {steps} {kept} {dropped} {deepest} ;{listed}")
-}
-
-fn written_refusal(refusal: Refusal) -> String {
-    let plain = format!("refused {} {}", refusal.number, written(refusal.span));
-    match refusal.note {
-        None => plain,
-        Some(note) => format!("{plain} {}", written(note)),
-    }
+    format!("{} ;{listed}", verdict_and_counts(answer))
 }
 
 fn written_lexeme(listed: &Listed) -> String {
     format!(" {} {}", listed.code, written(listed.span))
+}
+
+// Strings.
+
+/// So many calls of the generator, beside the chosen ones.
+const SAMPLED_STRINGS: usize = 300;
+
+fn string_lines() -> Vec<Line> {
+    let calls = strings::calls(SEED, SAMPLED_STRINGS);
+    calls.iter().map(strings::Call::line).collect()
 }

@@ -1,4 +1,16 @@
 // The exported interface, for C and Rust. include/rcl.h documents each call.
+mod strings;
+mod tidied;
+
+pub use strings::rcl_count_common_leading_spaces;
+pub use strings::rcl_is_identifier;
+pub use strings::rcl_is_keyword;
+pub use strings::rcl_parts;
+pub use strings::rcl_scalar_value;
+pub use strings::rcl_unescape_into;
+pub use strings::rcl_value;
+pub use tidied::rcl_hand_check;
+pub use tidied::rcl_tidy;
 ghost use mathlib.Core.Path.{_≡_};
 ghost use Rattle.rules.specs.Utf8.{firstBad};
 ghost use Rattle.rules.specs.Lexing.{Lexes};
@@ -38,6 +50,47 @@ pub struct LexedWords {
     pub deepest: u64,
 }
 
+// The result of tidying in words: that of lexing or of the writing after it, and the bytes written.
+#[repr(C)]
+pub struct TidiedWords {
+    pub lexed: LexedWords,
+    pub written: u64,
+}
+
+// A number in words, or the refusal: whether it was refused, the refusal's number and span, and the number.
+#[repr(C)]
+pub struct AnswerWords {
+    pub refused: u64,
+    pub number: u64,
+    pub low: u64,
+    pub high: u64,
+    pub count: u64,
+}
+
+// The closer's place in words, or the refusal, and how many parts were put.
+#[repr(C)]
+pub struct PartedWords {
+    pub refused: u64,
+    pub number: u64,
+    pub low: u64,
+    pub high: u64,
+    pub closer: u64,
+    pub parts: u64,
+}
+
+// Where a value stands in words, or the refusal: whether the output holds it, its start and end, and how many parts were put.
+#[repr(C)]
+pub struct ValuedWords {
+    pub refused: u64,
+    pub number: u64,
+    pub low: u64,
+    pub high: u64,
+    pub output: u64,
+    pub start: u64,
+    pub end: u64,
+    pub parts: u64,
+}
+
 // A result with no refusal yet, by its counts.
 fn counted(r: Lexed) -> LexedWords
     ensures { λ w. ⌜ w ≡ wordsOf r 0 0 0 0 0 0 0 ⌝ }
@@ -59,7 +112,7 @@ fn counted(r: Lexed) -> LexedWords
 }
 
 // A result in words.
-fn in_words(r: Lexed) -> LexedWords
+pub(crate) fn in_words(r: Lexed) -> LexedWords
     ensures { λ w. ⌜ wordsMeant w ≡ lexedMeant r ⌝ }
 {
     let mut w = counted(r);

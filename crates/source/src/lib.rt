@@ -8,8 +8,8 @@ ghost use mathlib.Core.Path.{_≡_};
 ghost use Prim.Native.Nat.{min, max, _%_, _^_};
 ghost use mathlib.Core.Bool.{not, _&&_};
 ghost use lib.Dec.{eqb};
-ghost use Rattle.rules.specs.Spans.{span, isBad, newSpan, lenOf, trimStart, trimEnd, untilOf, unionOf, resolved};
-ghost use Rattle.source.specs.Meaning.{spanMeant, spannedMeant, lengthMeant, insideMeant, partOf};
+ghost use Rattle.rules.specs.Spans.{span, nowhere as nowhereRule, refusal, isBad, newSpan, lenOf, trimStart, trimEnd, untilOf, unionOf, resolved};
+ghost use Rattle.source.specs.Meaning.{spanMeant, refusalMeant, spannedMeant, lengthMeant, insideMeant, partOf};
 
 // Marks a location in a source file by byte offset. Packed, from the least significant bit: 48 bits start offset, 48 bits end offset, 32 bits document id.
 pub struct Span {
@@ -46,6 +46,24 @@ pub struct Refusal {
 pub enum Note {
     None,
     At(Span),
+}
+
+// "elsewhere 0-0 is two zero words"
+pub fn nowhere() -> Span
+    ensures { λ r. ⌜ spanMeant r ≡ nowhereRule ⌝ }
+{
+    Span { low: 0, high: 0 }
+}
+
+// A refusal without a note.
+pub fn refuse(number: u8, at: Span) -> Refusal
+    ensures { λ r. ⌜ refusalMeant r ≡ refusal number (spanMeant at) ⌝ }
+{
+    Refusal {
+        number: number,
+        at: at,
+        note: Note::None,
+    }
 }
 
 impl Span {
@@ -92,6 +110,15 @@ impl Span {
         ensures { λ r. ⌜ r ≡ spanMeant self .end ⌝ }
     {
         (self.low / 0x1_0000_0000_0000 + self.high % 0x1_0000_0000 * 0x1_0000) as usize
+    }
+
+    // Whether its start is after its end.
+    pub fn is_bad(self) -> bool
+        ensures { λ r. ⌜ r ≡ isBad (spanMeant self) ⌝ }
+    {
+        let s = self.start();
+        let e = self.end();
+        e < s
     }
 
     // Length of this span in bytes.

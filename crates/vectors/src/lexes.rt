@@ -1,7 +1,6 @@
 // Lexing: `lex DOC LIST STACK BYTES`.
-ghost use Prim.Native.Nat.{_≤_};
-ghost use lib.ListN.{length};
 use crate::field;
+use crate::lists::print;
 use crate::texts;
 use lexer::Answer;
 use lexer::Lexed;
@@ -9,17 +8,8 @@ use libc::STDOUT_FILENO;
 use source::Note;
 use source::Span;
 
-fn space() {
-    io::write_all(STDOUT_FILENO, b" ");
-}
-
 fn wide(x: u8) -> u64 {
     x as u64
-}
-
-fn print(n: u64) {
-    space();
-    io::print_decimal(STDOUT_FILENO, n);
 }
 
 fn print_span(span: Span) {
@@ -28,7 +18,7 @@ fn print_span(span: Span) {
 }
 
 // `accepted`, or `refused`, the number, the span, and the note's span if there is one.
-fn print_answer(answer: Answer) {
+pub(crate) fn print_answer(answer: Answer) {
     let Answer::Refused(refusal) = answer else {
         io::write_all(STDOUT_FILENO, b"accepted");
         return;
@@ -44,7 +34,7 @@ fn print_answer(answer: Answer) {
     print_span(opener);
 }
 
-fn print_counts(r: Lexed) {
+pub(crate) fn print_counts(r: Lexed) {
     io::write_all(STDOUT_FILENO, b" ;");
     print(r.lexemes as u64);
     print(r.steps as u64);

@@ -1,27 +1,96 @@
 // Replays the fixed list of inputs that oracle/vectors wrote: runs the call that each line names and prints its answer, a line each. The gate holds
-// what is printed to the file stdout, which has the Rust's answers. A line of another kind is printed as it is.
+// what is printed to the file stdout, which has the answers of the Rust and, for parts and values, of the judge. A line of another kind is printed as it is.
 mod field;
 mod lexes;
+mod lists;
 mod spans;
+mod strings;
 mod texts;
+mod tidied;
 
+ghost use mathlib.Core.Path.{_≡_};
+ghost use lib.ListN.{length};
 use libc::STDIN_FILENO;
 use libc::STDOUT_FILENO;
+
+// A line on texts and spans: whether it was one.
+fn replay_text(line: &[u8], word: usize, rest: usize) -> bool {
+    if field::is(line, 0, word, b"utf8") {
+        texts::utf8(line, rest);
+        return true;
+    }
+    if field::is(line, 0, word, b"span") {
+        spans::span(line, rest);
+        return true;
+    }
+    if field::is(line, 0, word, b"lex") {
+        lexes::lex(line, rest);
+        return true;
+    }
+    false
+}
+
+// A line on names and escapes: whether it was one.
+fn replay_name(line: &[u8], word: usize, rest: usize) -> bool {
+    if field::is(line, 0, word, b"identifier") {
+        strings::identifier(line, rest);
+        return true;
+    }
+    if field::is(line, 0, word, b"keyword") {
+        strings::keyword(line, rest);
+        return true;
+    }
+    if field::is(line, 0, word, b"scalar") {
+        strings::scalar(line, rest);
+        return true;
+    }
+    if field::is(line, 0, word, b"escape") {
+        strings::escape(line, rest);
+        return true;
+    }
+    false
+}
+
+// A line on the parts of strings: whether it was one.
+fn replay_string(line: &[u8], word: usize, rest: usize) -> bool {
+    if field::is(line, 0, word, b"indent") {
+        strings::indent(line, rest);
+        return true;
+    }
+    if field::is(line, 0, word, b"parts") {
+        strings::parts(line, rest);
+        return true;
+    }
+    if field::is(line, 0, word, b"value") {
+        strings::value(line, rest);
+        return true;
+    }
+    false
+}
+
+// A line on the tidy writer and handing back: whether it was one.
+fn replay_tidied(line: &[u8], word: usize, rest: usize) -> bool {
+    if field::is(line, 0, word, b"tidy") {
+        tidied::tidy(line, rest);
+        return true;
+    }
+    if field::is(line, 0, word, b"hand") {
+        tidied::hand(line, rest);
+        return true;
+    }
+    false
+}
 
 // One line of the list, without its line end.
 fn replay(line: &[u8]) {
     let word = field::end_of(line, 0);
     let rest = field::after(line, word);
-    if field::is(line, 0, word, b"utf8") {
-        texts::utf8(line, rest);
-    } else {
-        if field::is(line, 0, word, b"span") {
-            spans::span(line, rest);
-        } else {
-            if field::is(line, 0, word, b"lex") {
-                lexes::lex(line, rest);
-            } else {
-                io::write_all(STDOUT_FILENO, line);
+    if !replay_text(line, word, rest) {
+        if !replay_name(line, word, rest) {
+            if !replay_string(line, word, rest) {
+                if !replay_tidied(line, word, rest) {
+                    io::write_all(STDOUT_FILENO, line);
+                }
             }
         }
     }
@@ -38,8 +107,15 @@ fn replay_all(list: &[u8]) {
     }
 }
 
+// Room for the whole list. Only the length is said, so that nothing computes with so many places.
+fn room() -> [u8; 786432]
+    ensures { λ r. ⌜ 786432 ≡ length r ⌝ }
+{
+    [0u8; 786432]
+}
+
 fn main() {
-    let mut buffer = [0u8; 393216];
+    let mut buffer = room();
     let n = io::read_full(STDIN_FILENO, &mut buffer);
     replay_all(&buffer[..n]);
 }

@@ -36,7 +36,7 @@ fn pair(high: u8, low: u8) -> u8 {
     h * 16 + l
 }
 
-// Writes the bytes of the field that begins at `start`, as many as there is room for, and says how many.
+// Writes the bytes of the field that begins at `start`, as many as there is room for, and says how many: none of `-`.
 pub(crate) fn read_bytes(line: &[u8], start: usize, bytes: &mut [u8]) -> usize
     ensures { λ r. ⌜ Counts r (now (bytes .exit)) ⌝ }
 {
@@ -49,7 +49,7 @@ pub(crate) fn read_bytes(line: &[u8], start: usize, bytes: &mut [u8]) -> usize
         if line.len() - i < 2 {
             return n;
         }
-        if line[i] == b' ' {
+        if 15 < digit(line[i]) {
             return n;
         }
         bytes[n] = pair(line[i], line[i + 1]);

@@ -1,18 +1,12 @@
 -- As many bytes are counted as there is room for; the lent array keeps its length.
 use native.Mathlib.Omega.{arith}
-use mathlib.Core.Path.{_≡_, sym}
-use mathlib.Core.List.{List}
-use lib.Seq.{length-take-le}
-use Rattle.io.specs.Counts.{Counts}
-use Prim.Native.Nat.{ℕ, _≤_, _-_}
+use mathlib.Core.Path.{_≡_}
+use Rattle.vectors.proofs.Lent.{counts}
+use Prim.Native.Nat.{_≤_, _-_}
 use lib.ListN.{length, length-set}
 use borrow.Author.Needs.{needs}
 use Rattle.vectors.proofs.texts.read_bytes.Statement.{statement}
 use Rattle.vectors.proofs.texts.read_bytes.Tie as tie
-
--- the second part of `Counts` follows from the first
-counts : (n : ℕ) (xs : List ℕ) → n ≤ length xs → Counts n xs
-counts n xs h = (h, sym (length-take-le n xs h))
 
 abbrev Inv-loop : tie.InvT-loop
 Inv-loop line start bytes₀ n₀ i₀ bytes n i = (n ≤ length bytes) × (length bytes ≡ length bytes₀)
@@ -38,14 +32,17 @@ same-length-2 c = c .before .before .before .loop .inv .1
 returns-2 : tie.Need-returns-2 Inv-loop μ-loop
 returns-2 c = counts _ _ (c .before .before .before .loop .inv .0)
 
-shared-slice-read-if3 : tie.Need-shared-slice-read-if3 Inv-loop μ-loop
-shared-slice-read-if3 c = search needs
+shared-slice-read-digit : tie.Need-shared-slice-read-digit Inv-loop μ-loop
+shared-slice-read-digit c = search needs
+
+digit-requires : tie.Need-digit-requires Inv-loop μ-loop
+digit-requires c κs = search needs
 
 same-length-3 : tie.Need-same-length-3 Inv-loop μ-loop
-same-length-3 c = c .before .before .before .before .before .loop .inv .1
+same-length-3 c = c .before .before .before .before .before .before .loop .inv .1
 
 returns-3 : tie.Need-returns-3 Inv-loop μ-loop
-returns-3 c = counts _ _ (c .before .before .before .before .before .loop .inv .0)
+returns-3 c = counts _ _ (c .before .before .before .before .before .before .loop .inv .0)
 
 shared-slice-read-pair : tie.Need-shared-slice-read-pair Inv-loop μ-loop
 shared-slice-read-pair c = search needs
@@ -72,7 +69,7 @@ loop-less : tie.Need-loop-less Inv-loop μ-loop
 loop-less c = search needs
 
 loop-again : tie.Need-loop-again Inv-loop μ-loop
-loop-again c = (simp length-set (omega arith), simp length-set (c .before .before .before .before .before .before .before .before .loop .inv .1))
+loop-again c = (simp length-set (omega arith), simp length-set (c .before .before .before .before .before .before .before .before .before .loop .inv .1))
 
 same-length-4 : tie.Need-same-length-4 Inv-loop μ-loop
 same-length-4 c = c .before .loop .inv .1
@@ -92,7 +89,8 @@ read-bytes-spec =
     sub-if2
     same-length-2
     returns-2
-    shared-slice-read-if3
+    shared-slice-read-digit
+    digit-requires
     same-length-3
     returns-3
     shared-slice-read-pair

@@ -1,0 +1,29 @@
+-- Each arm knows what the turn is; a turn that goes on is by its move the one or the other, and both answer the place.
+use mathlib.Core.Path.{_≡_, refl, ap}
+use Prim.Native.Nat.{ℕ}
+use borrow.Author.Needs.{needs}
+use Rattle.rules.specs.Spans.{given, refused}
+use Rattle.cst.specs.declared.Move.{Move}
+use Rattle.cst.specs.declared.Move.the-variants.{Passes, Yields}
+use Rattle.cst.specs.Search.{moveMeant, answerAt}
+use Rattle.cst.proofs.search.stopped.Statement.{statement}
+use Rattle.cst.proofs.search.stopped.Tie as tie
+
+goes : (place : ℕ) (m : Move) → given place ≡ answerAt place (moveMeant m)
+goes place (Passes o) = refl
+goes place (Yields p) = refl
+
+returns : tie.Need-returns
+returns c = rw (c .enum-told .given .1) (goes _ (c .enum-told .given .0 .0))
+
+returns-2 : tie.Need-returns-2
+returns-2 c = rw (c .before .before .before .turn .given .1, c .enum-told2 .given .1)
+
+returns-3 : tie.Need-returns-3
+returns-3 c = rw (c .before .before .before .before .before .turn .given .1, c .before .before .stop .given .1) (ap refused (c .refuse .ensures))
+
+pub stopped-spec : {M : Type 1} → statement M
+stopped-spec =
+    tie.close
+    (tie.spec
+    (λ c. search needs) (λ c. search needs) returns (λ c. search needs) (λ c. search needs) (λ c κs. search needs) returns-2 returns-3)

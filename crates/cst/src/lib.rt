@@ -1,0 +1,97 @@
+// RCL -- A reasonable configuration language.
+// Copyright 2023 Ruud van Asseldonk
+// Licensed under the Apache License, Version 2.0 (the "License"): see NOTICE.
+// From src/cst.rs of RCL, changed: of the syntax tree only the parts of a string, a hole without its expression; listed in lent arrays.
+
+// The parts of a string.
+mod search;
+
+pub use search::parts;
+ghost use mathlib.Core.Path.{_≡_};
+ghost use Rattle.list.specs.Entries.{entryMeant};
+ghost use Rattle.cst.specs.Meaning.{partMeant, knownMeant, ifPart};
+use list::Entry;
+use source::Refusal;
+use source::Span;
+use token::Escape;
+
+// A part of a string literal or format string.
+pub enum StringPart {
+    // A fragment of a line. The `\n` is leading, not trailing.
+    String(Span),
+    // An escape sequence.
+    Escape(Span, Escape),
+    // An interpolation hole (only inside format strings).
+    Hole(Span),
+}
+
+// The part that an entry of a list is, or none.
+pub enum Known {
+    Part(StringPart),
+    NoPart,
+}
+
+// The closer's place in the list, or why there is none.
+pub enum Closer {
+    At(usize),
+    Refused(Refusal),
+}
+
+// What listing the parts answers, and how many were put into the list.
+pub struct Parted {
+    pub answer: Closer,
+    pub parts: usize,
+}
+
+// What is open: how many, and the span of the outermost hole's opener where there is one.
+pub struct Open {
+    pub depth: usize,
+    pub hole: Span,
+}
+
+// What a lexeme does that does not end the search: it is passed over, with what is open after it, or completes a part.
+pub enum Move {
+    Passes(Open),
+    Yields(StringPart),
+}
+
+// What ends the search: the closer, or a refusal.
+pub enum Stop {
+    Closes,
+    Refuses(u8, Span),
+}
+
+pub enum Turn {
+    Goes(Move),
+    Stops(Stop),
+}
+
+// A part as an entry of a list.
+pub fn entry(part: StringPart) -> Entry
+    ensures { λ r. ⌜ entryMeant r ≡ partMeant part ⌝ }
+{
+    match part {
+        StringPart::String(span) => Entry { kind: 10, at: span },
+        StringPart::Escape(span, escape) => Entry {
+            kind: token::escape_code(escape),
+            at: span,
+        },
+        StringPart::Hole(span) => Entry { kind: 14, at: span },
+    }
+}
+
+// An entry of a list as a part.
+pub fn part(entry: Entry) -> Known
+    ensures { λ r. ⌜ knownMeant r ≡ ifPart (entryMeant entry) ⌝ }
+{
+    let span = entry.at;
+    let kind = entry.kind;
+    match kind {
+        10 => Known::Part(StringPart::String(span)),
+        11 => Known::Part(StringPart::Escape(span, Escape::Single)),
+        12 => Known::Part(StringPart::Escape(span, Escape::Unicode4)),
+        13 => Known::Part(StringPart::Escape(span, Escape::UnicodeDelim)),
+        14 => Known::Part(StringPart::Hole(span)),
+        _ => Known::NoPart,
+    }
+}

@@ -1,0 +1,2 @@
+-- a list in two arrays, place by place
+pub mod Entries

@@ -1,0 +1,2 @@
+-- what writing does to an output, and chunks one after another
+pub mod Overwritten

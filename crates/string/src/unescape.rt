@@ -1,0 +1,228 @@
+// Escape sequences: the scalar value of one, and writing it.
+ghost use mathlib.Core.Path.{_≡_};
+ghost use mathlib.Core.Bool.{true, cond};
+ghost use Rattle.rules.specs.Text.{all};
+ghost use Rattle.rules.specs.Bytes.{isHexDigit};
+ghost use Rattle.rules.specs.Utf8.{isScalar};
+ghost use Rattle.rules.specs.Spans.{refuse};
+ghost use Rattle.rules.specs.Escapes.{isSingle, isUnicode4, isUnicodeDelim, singleScalar, unicodeScalar, scalarOf, escapeScalar, Unescapes};
+ghost use Rattle.source.specs.Meaning.{spanMeant};
+ghost use Rattle.string.specs.Meaning.{decodedMeant, unescapedMeant, PutScalar};
+use crate::Decoded;
+use crate::Unescaped;
+use crate::hex;
+use source::Span;
+
+fn refused(number: u8, span: Span) -> Decoded
+    ensures { λ r. ⌜ decodedMeant r ≡ refuse number (spanMeant span) ⌝ }
+{
+    Decoded::Refused(source::refuse(number, span))
+}
+
+// The byte after the backslash.
+fn unescape_single(span: Span, ch: u8) -> Decoded
+    ensures { λ r. ⌜ decodedMeant r ≡ singleScalar (spanMeant span) ch ⌝ }
+{
+    match ch {
+        // The following escape sequences are identical to json.
+        b'"' => Decoded::Scalar(0x22),
+        b'\\' => Decoded::Scalar(0x5C),
+        b'/' => Decoded::Scalar(0x2F),
+        b'b' => Decoded::Scalar(0x08),
+        b'f' => Decoded::Scalar(0x0C),
+        b'n' => Decoded::Scalar(0x0A),
+        b'r' => Decoded::Scalar(0x0D),
+        b't' => Decoded::Scalar(0x09),
+        // This one is not part of json. We add it to escape { in f-strings, but for consistency it can be used in any string literal.
+        b'{' => Decoded::Scalar(0x7B),
+        // } never needs to be escaped, but for symmetry with { we allow it.
+        b'}' => Decoded::Scalar(0x7D),
+        // Escape sequences are written lowercase.
+        b'A'..=b'Z' => refused(42, span),
+        _ => refused(41, span),
+    }
+}
+
+// Not a surrogate, and not over 0x10FFFF.
+fn is_scalar(u: u32) -> bool
+    ensures { λ r. ⌜ r ≡ isScalar u ⌝ }
+{
+    (u < 0xD800) | (0xE000 <= u) & (u <= 0x10FFFF)
+}
+
+fn unescape_unicode(span: Span, digits: &[u8]) -> Decoded
+    requires { ⌜ all isHexDigit (now digits) ≡ true ⌝ }
+    ensures { λ r. ⌜ decodedMeant r ≡ unicodeScalar (spanMeant span) (now (digits .entry)) ⌝ }
+{
+    if digits.len() == 0 {
+        return refused(43, span);
+    }
+    if 6 < digits.len() {
+        return refused(44, span);
+    }
+    let u = hex::hex_value(digits);
+    if !is_scalar(u) {
+        return refused(45, span);
+    }
+    Decoded::Scalar(u)
+}
+
+// "Form: kind 11 is `\` and one byte"
+fn is_single(bytes: &[u8]) -> bool
+    ensures { λ r. ⌜ r ≡ isSingle (now (bytes .entry)) ⌝ }
+{
+    if bytes.len() != 2 {
+        return false;
+    }
+    bytes[0] == b'\\'
+}
+
+// "12 is `\u` and four hex digits"
+fn is_unicode4(bytes: &[u8]) -> bool
+    ensures { λ r. ⌜ r ≡ isUnicode4 (now (bytes .entry)) ⌝ }
+{
+    if bytes.len() != 6 {
+        return false;
+    }
+    if bytes[0] != b'\\' {
+        return false;
+    }
+    if bytes[1] != b'u' {
+        return false;
+    }
+    hex::all_hex_digits(&bytes[2..])
+}
+
+// "13 is `\u{`, any number of hex digits, none included, and `}`"
+fn is_unicode_delim(bytes: &[u8]) -> bool
+    ensures { λ r. ⌜ r ≡ isUnicodeDelim (now (bytes .entry)) ⌝ }
+{
+    let n = bytes.len();
+    if n < 4 {
+        return false;
+    }
+    if bytes[0] != b'\\' {
+        return false;
+    }
+    if bytes[1] != b'u' {
+        return false;
+    }
+    if bytes[2] != b'{' {
+        return false;
+    }
+    if bytes[n - 1] != b'}' {
+        return false;
+    }
+    hex::all_hex_digits(&bytes[3..n - 1])
+}
+
+// The scalar value of the bytes of an escape sequence of a kind.
+fn scalar_of(span: Span, kind: u8, bytes: &[u8]) -> Decoded
+    ensures { λ r. ⌜ decodedMeant r ≡ scalarOf (spanMeant span) kind (now (bytes .entry)) ⌝ }
+{
+    if kind == 11 {
+        if !is_single(bytes) {
+            return refused(40, span);
+        }
+        return unescape_single(span, bytes[1]);
+    }
+    if kind == 12 {
+        if !is_unicode4(bytes) {
+            return refused(40, span);
+        }
+        return unescape_unicode(span, &bytes[2..]);
+    }
+    if kind == 13 {
+        if !is_unicode_delim(bytes) {
+            return refused(40, span);
+        }
+        return unescape_unicode(span, &bytes[3..bytes.len() - 1]);
+    }
+    refused(40, span)
+}
+
+// The scalar value of an escape sequence of a text: 3, 40, 43, 44, 45, 41, 42.
+pub fn scalar_value(text: &[u8], span: Span, kind: u8) -> Decoded
+    ensures { λ r. ⌜ decodedMeant r ≡ escapeScalar (now (text .entry)) (spanMeant span) kind ⌝ }
+{
+    if span.is_bad() {
+        return refused(3, source::nowhere());
+    }
+    let start = span.start();
+    let end = span.end();
+    if text.len() < end {
+        return refused(40, span);
+    }
+    scalar_of(span, kind, &text[start..end])
+}
+
+// Writes the UTF-8 of a scalar value, whole or not: how many bytes, 0 where it does not fit.
+fn put_scalar(u: u32, output: &mut [u8], position: usize) -> usize
+    requires { ⌜ isScalar u ≡ true ⌝ }
+    ensures { λ r. ⌜ PutScalar u position (now (output .entry)) r (now (output .exit)) ⌝ }
+{
+    if u < 0x80 {
+        let bytes = [u as u8];
+        return if_put(output::put(&bytes, output, position), 1);
+    }
+    if u < 0x800 {
+        let bytes = [(0xC0 + u / 64) as u8, (0x80 + u % 64) as u8];
+        return if_put(output::put(&bytes, output, position), 2);
+    }
+    if u < 0x10000 {
+        let bytes = [
+            (0xE0 + u / 4096) as u8,
+            (0x80 + u / 64 % 64) as u8,
+            (0x80 + u % 64) as u8,
+        ];
+        return if_put(output::put(&bytes, output, position), 3);
+    }
+    let bytes = [
+        (0xF0 + u / 262144) as u8,
+        (0x80 + u / 4096 % 64) as u8,
+        (0x80 + u / 64 % 64) as u8,
+        (0x80 + u % 64) as u8,
+    ];
+    if_put(output::put(&bytes, output, position), 4)
+}
+
+// A count, or 0.
+fn if_put(put: bool, bytes: usize) -> usize
+    ensures { λ r. ⌜ r ≡ cond put bytes 0 ⌝ }
+{
+    if put {
+        return bytes;
+    }
+    0
+}
+
+// Convert an escape sequence into the bytes it represents, at a position of the output: as `scalar_value`, then 46.
+pub fn unescape_into(
+    text: &[u8],
+    span: Span,
+    kind: u8,
+    output: &mut [u8],
+    position: usize,
+) -> Unescaped
+    ensures { λ r. ⌜ Unescapes (now (text .entry)) (spanMeant span) kind (now (output .entry)) position (unescapedMeant r) (now (output .exit)) ⌝ }
+{
+    let answer = scalar_value(text, span, kind);
+    let Decoded::Scalar(u) = answer else {
+        return not_decoded(answer);
+    };
+    let bytes = put_scalar(u, output, position);
+    if bytes == 0 {
+        return Unescaped::Refused(source::refuse(46, span));
+    }
+    Unescaped::Bytes(bytes)
+}
+
+// The refusal of an escape sequence that has no scalar value.
+fn not_decoded(answer: Decoded) -> Unescaped
+    ensures { λ r. ⌜ unescapedMeant r ≡ decodedMeant answer ⌝ }
+{
+    match answer {
+        Decoded::Refused(refusal) => Unescaped::Refused(refusal),
+        Decoded::Scalar(u) => Unescaped::Bytes(u as usize),
+    }
+}

@@ -1,0 +1,141 @@
+// One piece of a value.
+ghost use mathlib.Core.Path.{_≡_};
+ghost use Prim.Native.Nat.{min};
+ghost use lib.ListN.{length};
+ghost use mathlib.Core.Bool.{true};
+ghost use Rattle.rules.specs.Spans.{refuse};
+ghost use Rattle.rules.specs.Kinds.{StringInner, isEscape};
+ghost use Rattle.rules.specs.Lexing.{lexeme};
+ghost use Rattle.rules.specs.Value.{dedented, escapeVerdict};
+ghost use Rattle.source.specs.Meaning.{spanMeant};
+ghost use Rattle.list.specs.Entries.{entryMeant};
+ghost use Rattle.output.specs.Places.{Put};
+ghost use Rattle.cst.specs.Meaning.{partMeant};
+ghost use Rattle.value.specs.Meaning.{verdictMeant, reachedMeant};
+ghost use Rattle.value.specs.Pieces.{takenOff, Good, PartWritten};
+use crate::Reached;
+use crate::Verdict;
+use cst::StringPart;
+use list::Entry;
+use source::Span;
+use string::Decoded;
+use string::Unescaped;
+
+fn least(a: usize, b: usize) -> usize
+    ensures { λ r. ⌜ r ≡ min a b ⌝ }
+{
+    if a < b { a } else { b }
+}
+
+// How many spaces the indent takes off: "after each leading LF, as far as spaces go".
+fn taken_off(line: &[u8], indent: usize) -> usize
+    ensures { λ r. ⌜ r ≡ takenOff indent (now (line .entry)) ⌝ }
+{
+    if !string::starts_line(line) {
+        return 0;
+    }
+    least(indent, string::leading_spaces(line))
+}
+
+// How many bytes a String part gives.
+pub(crate) fn string_length(line: &[u8], indent: usize) -> usize
+    ensures { λ r. ⌜ r ≡ length (dedented indent (now (line .entry))) ⌝ }
+{
+    line.len() - taken_off(line, indent)
+}
+
+// Writes the bytes of a String part, whole or not.
+fn put_string(line: &[u8], indent: usize, output: &mut [u8], position: usize) -> bool
+    ensures { λ r. ⌜ Put (dedented indent (now (line .entry))) position (now (output .entry)) r (now (output .exit)) ⌝ }
+{
+    let n = taken_off(line, indent);
+    if n == 0 {
+        return output::put(line, output, position);
+    }
+    output::put_two(&line[..1], &line[n + 1..], output, position)
+}
+
+fn not_written(span: Span) -> Reached
+    ensures { λ r. ⌜ reachedMeant r ≡ refuse 46 (spanMeant span) ⌝ }
+{
+    Reached::Refused(source::refuse(46, span))
+}
+
+// The refusal of a part that is an escape.
+pub(crate) fn check_escape(text: &[u8], entry: Entry) -> Verdict
+    ensures { λ r. ⌜ verdictMeant r ≡ escapeVerdict (now (text .entry)) (entryMeant entry) ⌝ }
+{
+    let kind = entry.kind;
+    if (kind < 11) | (13 < kind) {
+        return Verdict::Accepted;
+    }
+    let answer = string::scalar_value(text, entry.at, kind);
+    match answer {
+        Decoded::Scalar(_) => Verdict::Accepted,
+        Decoded::Refused(refusal) => Verdict::Refused(refusal),
+    }
+}
+
+// Writes a String part.
+fn write_string(
+    text: &[u8],
+    indent: usize,
+    span: Span,
+    output: &mut [u8],
+    position: usize,
+) -> Reached
+    requires { ⌜ Good (now text) (lexeme StringInner (spanMeant span)) ⌝ }
+    ensures { λ r. ⌜ PartWritten (now (text .entry)) indent (lexeme StringInner (spanMeant span)) position (now (output .entry)) (reachedMeant r) (now (output .exit)) ⌝ }
+{
+    let line = source::resolve(text, span);
+    if !put_string(line, indent, output, position) {
+        return not_written(span);
+    }
+    Reached::To(position + string_length(line, indent))
+}
+
+// Writes an Escape part of a kind.
+fn write_escape(
+    text: &[u8],
+    indent: usize,
+    span: Span,
+    kind: u8,
+    output: &mut [u8],
+    position: usize,
+) -> Reached
+    requires { ⌜ Good (now text) (lexeme kind (spanMeant span)) × (isEscape kind ≡ true) ⌝ }
+    ensures { λ r. ⌜ PartWritten (now (text .entry)) indent (lexeme kind (spanMeant span)) position (now (output .entry)) (reachedMeant r) (now (output .exit)) ⌝ }
+{
+    let answer = string::unescape_into(text, span, kind, output, position);
+    match answer {
+        Unescaped::Bytes(n) => Reached::To(position + n),
+        Unescaped::Refused(refusal) => Reached::Refused(refusal),
+    }
+}
+
+// Writes a part. "Holes give no byte."
+pub(crate) fn write_part(
+    text: &[u8],
+    indent: usize,
+    part: StringPart,
+    output: &mut [u8],
+    position: usize,
+) -> Reached
+    requires { ⌜ Good (now text) (partMeant part) ⌝ }
+    ensures { λ r. ⌜ PartWritten (now (text .entry)) indent (partMeant part) position (now (output .entry)) (reachedMeant r) (now (output .exit)) ⌝ }
+{
+    match part {
+        StringPart::String(span) => write_string(text, indent, span, output, position),
+        StringPart::Escape(span, escape) => {
+            write_escape(
+                text,
+                indent,
+                span,
+                token::escape_code(escape),
+                output,
+                position,
+            )
+        }
+        StringPart::Hole(_) => Reached::To(position),
+    }
+}

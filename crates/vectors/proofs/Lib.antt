@@ -1,0 +1,2 @@
+-- counts and lengths of lent lists
+pub mod Lent
