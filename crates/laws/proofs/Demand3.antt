@@ -1,18 +1,20 @@
 -- Demand 3, and what the auditor asks beside it, from the laws before.
 use Prim.Native.Nat.{ℕ, _≤_}
 use mathlib.Core.Path.{_≡_, refl, sym, ap, _∙_}
-use mathlib.Core.Bool.{true, false≢true}
+use mathlib.Core.Bool.{Bool, true, false, false≢true}
 use mathlib.Core.Option.{Option, none, some}
 use mathlib.Core.List.{List, []}
 use lib.ListN.{length}
 use Rattle.rules.specs.Utf8.{firstBad}
 use Rattle.rules.specs.Kinds.{Blank}
-use Rattle.rules.specs.Spans.{limit}
+use Rattle.rules.specs.Spans.{limit, given, refused, Verdict, accepted}
 use Rattle.rules.specs.Text.{join}
-use Rattle.rules.specs.Lexing.{Trace, ended, traceFrom, trace, accepts, meetsNoRefusal, lexemesOf, joined}
+use Rattle.rules.specs.Lexing.{Piece, Trace, End, ended, stopped, traceFrom, trace, accepts, meetsNoRefusal, traceIn, lexemesOf, joined, placed, openOf, verdictOf, lexedOf, lexing}
 use Rattle.rules.specs.Tidy.{spaced, respaced}
 use Rattle.rules.proofs.Trace.{trace-bad, trace-good}
-use Rattle.laws.specs.Demand3.{Demand3}
+use Rattle.rules.proofs.Text.{decide}
+use Rattle.laws.specs.Demand3.{isMemoryRefusal, isShort, Demand3}
+use Rattle.laws.proofs.Lent.{in-ample, in-short, verdict-short}
 use Rattle.laws.proofs.Accounting.{memory, account}
 use Rattle.laws.proofs.Accepted.{accepted-sound}
 use Rattle.laws.proofs.Respaced.{respacedAfter, respaced-lexemes, respaced-joined, respaced-trace, respaced-again}
@@ -77,3 +79,28 @@ demand-3 text a = record {
   respaces = λ fits. record { accepted = again-accepted text a fits; unchanged = again-same text a fits };
   alike = λ fits. alike text (respaced text) (same-lexemes text a fits);
 }
+
+-- a call that accepts met no refusal
+no-refusal : (doc places stack : ℕ) (text : List ℕ) → lexing doc places stack text .verdict ≡ accepted → meetsNoRefusal ((traceIn places stack text) .end) ≡ true
+unfolding lexing lexedOf verdictOf
+no-refusal doc places stack text = cases ((traceIn places stack text) .end)
+  where
+    ps : List Piece
+    ps = (traceIn places stack text) .pieces
+
+    isGiven : Verdict → Bool
+    isGiven (given u) = true
+    isGiven (refused r) = false
+
+    cases : (e : End) → verdictOf doc (length (joined ps)) (openOf [] (placed doc 0 ps)) e ≡ accepted → meetsNoRefusal e ≡ true
+    cases ended v = refl
+    cases (stopped number from n) v = ap isGiven v
+
+-- a lexing call that accepts a text has read the whole of it, whatever was lent; and the rules accept it
+pub accepted-all : (text : List ℕ) (doc places stack : ℕ) → lexing doc places stack text .verdict ≡ accepted → (accepts text ≡ true) × (joined ((traceIn places stack text) .pieces) ≡ text)
+accepted-all text doc places stack v = decide (isShort text places stack)
+    (λ short. absurd (false≢true (ap isMemoryRefusal (sym v) ∙ verdict-short doc places stack text (in-short places stack text short))))
+    (λ ample.
+    let same : traceIn places stack text ≡ trace text = in-ample places stack text ample in
+    let a : accepts text ≡ true = ap (λ (t : Trace). meetsNoRefusal (t .end)) (sym same) ∙ no-refusal doc places stack text v in
+    (a, ap (λ (t : Trace). joined (t .pieces)) same ∙ accepted-whole text a))

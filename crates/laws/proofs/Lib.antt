@@ -59,3 +59,5 @@ pub mod Alike
 -- Demand 3, over the definitions and at the calls.
 pub mod Demand3
 pub mod Calls
+-- The walker.
+pub mod Walking

@@ -5,6 +5,7 @@ pub mod Numbers
 pub mod Punctuation
 pub mod Quoted
 pub mod Steps
+pub mod Opening
 -- the loop
 pub mod Parts
 pub mod Standing

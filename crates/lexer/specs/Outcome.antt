@@ -1,9 +1,13 @@
 -- What a step's answer means: its kind or number, and its offsets in the whole text.
 use Prim.Native.Nat.{ℕ, _+_, _≤_, _<_, _^_}
 use mathlib.Core.List.{List}
-use lib.ListN.{length}
-use Rattle.rules.specs.Kinds.{Nothing}
-use Rattle.rules.specs.Step.{Step as StepRule, found, stop}
+use mathlib.Core.Bool.{cond}
+use lib.Dec.{leb, ltb}
+use lib.ListN.{length, drop}
+use Rattle.rules.specs.Refusals.{TooLong, WrongForm}
+use Rattle.rules.specs.Spans.{limit}
+use Rattle.rules.specs.Kinds.{Nothing, isOpener}
+use Rattle.rules.specs.Step.{Step as StepRule, found, stop, step}
 use Rattle.token.specs.Codes.{codeOf, stateCode}
 use Rattle.token.specs.declared.Opened.{Opened}
 use Rattle.token.specs.declared.Opened.the-variants.{State as OpenedState, NoOpener}
@@ -23,6 +27,13 @@ outcome at (stop number from n) = refusedAt number (at + from) (at + from + n)
 abbrev pub stepMeant : Step → Outcome
 stepMeant (Found l) = lexemeTo (codeOf (l .token)) (l .end)
 stepMeant (Refused f) = refusedAt (f .number) (f .start) (f .end)
+
+-- of a step at any position, where a code is innermost
+unfoldable pub steppedAt : List ℕ → (at innermost : ℕ) → Outcome
+steppedAt text at k =
+    cond (ltb limit (length text)) (refusedAt TooLong 0 0) (
+    cond (leb (length text) at) (refusedAt WrongForm 0 0)
+    (outcome at (step (cond (isOpener k) k Nothing) (drop at text))))
 
 -- a position in a text within the limit
 pub record Here (at : ℕ) (t : List ℕ) : Type 0 where

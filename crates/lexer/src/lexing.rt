@@ -2,10 +2,9 @@
 ghost use mathlib.Core.Path.{_≡_};
 ghost use Rattle.rules.specs.Kinds.{isOpener, isCloser};
 ghost use Rattle.rules.specs.Lexing.{unclosed, depthAfter, Lexes};
-ghost use Rattle.source.specs.Meaning.{refusalMeant};
 ghost use Rattle.lexer.specs.Cursor.{advanceOf, fullOf};
 ghost use Rattle.lexer.specs.Results.{lexedMeant, lexedAt, refusedWith, CanDeepen, CanAdvance, CanWrite, Wrote, CanStop, CanFinish, noteAt, verdictAt, faultOf};
-ghost use Prim.Native.Nat.{_+_, _≤_, _<_, _^_, max};
+ghost use Prim.Native.Nat.{max};
 use crate::Answer;
 use crate::Cursor;
 use crate::Fault;

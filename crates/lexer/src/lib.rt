@@ -11,10 +11,12 @@ mod next;
 mod number;
 mod punct;
 mod space;
+mod stepping;
 mod string;
 
 pub use ident::is_keyword;
 pub use lexing::lex;
+pub use stepping::step_at;
 ghost use mathlib.Core.Path.{_≡_};
 ghost use Rattle.token.specs.Codes.{codeOf};
 ghost use Rattle.lexer.specs.Outcome.{lexemeTo, refusedAt, stepMeant};

@@ -1,7 +1,7 @@
 // Lent memory: the list of lexemes and the stack of openers, each two parallel arrays.
 ghost use mathlib.Core.Path.{_≡_};
 ghost use Prim.Native.Nat.{_+_, _-_, _*_, _<_, _≤_};
-ghost use lib.ListN.{length, getD, set};
+ghost use lib.ListN.{length, getD};
 ghost use Rattle.rules.specs.Lexing.{placesOf};
 ghost use Rattle.lexer.specs.Memory.{PutAt, topOf};
 use source::Span;
