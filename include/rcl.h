@@ -108,6 +108,40 @@ rcl_tidied rcl_tidy(uint32_t doc, const uint8_t *text, uintptr_t len,
                     uint8_t *stack_kinds, uintptr_t stack_kinds_len, uint64_t *stack_words, uintptr_t stack_words_len,
                     uint8_t *output, uintptr_t output_len);
 
+/* What a walker keeps that is opened with a text: a refusal 2 or 1, which it gives at every step; else all 0. */
+typedef struct rcl_walker {
+    uint64_t refused, number, low, high;
+} rcl_walker;
+
+rcl_walker rcl_walker_open(uint32_t doc, const uint8_t *text, uintptr_t len);
+
+/* A walker's step. */
+typedef struct rcl_stepped {
+    uint64_t answer;             /* 0: a lexeme; 1: ended; 2: refused */
+    uint64_t number;             /* the lexeme's kind code, or the refusal's number */
+    uint64_t low, high;          /* its span */
+    uint64_t noted, note_low, note_high;
+    uint64_t position, depth;    /* where the walker stands after it: as before where it ended or was refused */
+} rcl_stepped;
+
+/* One step of a walker that stands at `position` with `depth` openers on its stack, as it began with 0 and 0; `kept` to `kept_high` are what rcl_walker_open answered (0: nothing kept).
+   A Space is a lexeme here. Only an opener is written to the stack, at the place numbered by the depth before it; a refused step changes nothing.
+   Refusals, in this order: the kept one; 2; 40 at 0-0 where the position is past the end, the depth above the stack's places or the innermost code no opener's; 25 to 28 at the end; 10 to 24 of the text; 30. */
+rcl_stepped rcl_walker_step(uint32_t doc, const uint8_t *text, uintptr_t len, uintptr_t position, uintptr_t depth,
+                            uint64_t kept, uint8_t kept_number, uint64_t kept_low, uint64_t kept_high,
+                            uint8_t *stack_kinds, uintptr_t stack_kinds_len, uint64_t *stack_words, uintptr_t stack_words_len);
+
+/* What lexing with a tally answers: as rcl_lex, and the tally after it. */
+typedef struct rcl_counted {
+    rcl_lexed lexed;
+    uint64_t accepted, refused, steps;
+} rcl_counted;
+
+/* rcl_lex, counted: one more call accepted or refused, and its steps, refused calls' too. Each number stops at 2^64 - 1. Begin with 0, 0, 0. */
+rcl_counted rcl_lex_tallied(uint64_t accepted, uint64_t refused, uint64_t steps, uint32_t doc, const uint8_t *text, uintptr_t len,
+                            uint8_t *kinds, uintptr_t kinds_len, uint64_t *words, uintptr_t words_len,
+                            uint8_t *stack_kinds, uintptr_t stack_kinds_len, uint64_t *stack_words, uintptr_t stack_words_len);
+
 #ifdef __cplusplus
 }
 #endif

@@ -14,6 +14,7 @@ pub mod parts;
 pub mod random;
 pub mod rfc8259;
 pub mod spaced;
+pub mod states;
 pub mod strings;
 pub mod utf8;
 

@@ -19,6 +19,7 @@ pub mod refusal;
 pub mod report;
 pub mod respace;
 pub mod strings;
+pub mod walker;
 
 #[cfg(test)]
 mod marked;

@@ -11,6 +11,7 @@ use crate::strings::case::Case;
 use crate::strings::hand::{handed, handed_or_empty};
 use crate::strings::value::Held;
 use crate::strings::{Refused, Words, LONGEST, NOWHERE};
+use crate::walker::{opened, walk, Given, Place, Stack, Stepped, Walked};
 
 const DOC: DocId = DocId(7);
 
@@ -175,4 +176,88 @@ fn handing_back() {
     let outside = Refused::new(40, Words::new(0, 1, 3));
     assert_eq!(check(output(1, 3)), Err(outside));
     assert_eq!(handed_or_empty(b"abc", b"xy", output(1, 3)), b"");
+}
+
+// The walker.
+
+fn place(position: usize, depth: usize) -> Place {
+    Place { position, depth }
+}
+
+fn stack_of(kinds: &[u8]) -> Stack {
+    Stack {
+        kinds: kinds.to_vec(),
+        words: (1..=2 * kinds.len() as u64).collect(),
+    }
+}
+
+/// One step with nothing kept: the kind or the refusal's number and its span, and where
+/// the walker then stands.
+fn stepped(text: &[u8], before: Place, stack: &mut Stack) -> (u8, Option<Span>, Place) {
+    let Stepped { given, after } = Walked::new(text, DOC).step(None, before, stack);
+    match given {
+        Given::Lexeme(lexeme) => (lexeme.code, Some(lexeme.span), after),
+        Given::Ended => (0, None, after),
+        Given::Refused(refusal) => (refusal.number, Some(refusal.span), after),
+    }
+}
+
+#[test]
+fn walking() {
+    let text = b"( x]";
+    assert_eq!(opened(text, DOC), None);
+    let mut stack = stack_of(&[0]);
+    let step = |at, stack: &mut Stack| stepped(text, at, stack);
+    assert_eq!(
+        step(place(0, 0), &mut stack),
+        (33, Some(span(0, 1)), place(1, 1))
+    );
+    let (low, high) = words::of(span(0, 1));
+    assert_eq!((stack.kinds[0], &stack.words[..]), (33, &[low, high][..]));
+    assert_eq!(
+        step(place(1, 1), &mut stack),
+        (0, Some(span(1, 2)), place(2, 1))
+    );
+    assert_eq!(
+        step(place(3, 1), &mut stack),
+        (24, Some(span(3, 4)), place(3, 1))
+    );
+    assert_eq!(
+        step(place(4, 1), &mut stack),
+        (25, Some(span(4, 4)), place(4, 1))
+    );
+    assert_eq!(step(place(4, 0), &mut stack), (0, None, place(4, 0)));
+    let full = step(place(0, 1), &mut stack);
+    assert_eq!(full, (30, Some(span(0, 1)), place(0, 1)));
+    let places = |last: usize| walk(&trace(text, DOC), last).len();
+    assert_eq!((places(0), places(1)), (1, 4));
+}
+
+#[test]
+fn walking_from_any_state() {
+    let (text, nowhere) = (b"\\\xc3a", Some(span(0, 0)));
+    let wrong = |at, stack: &mut Stack| {
+        assert_eq!(stepped(text, at, stack), (40, nowhere, at));
+    };
+    wrong(place(4, 0), &mut stack_of(&[]));
+    wrong(place(3, 2), &mut stack_of(&[33]));
+    wrong(place(3, 1), &mut stack_of(&[34]));
+    let kept = opened(text, DOC);
+    assert_eq!(kept, Some(Refusal::plain(1, span(1, 1))));
+    let before = place(9, 9);
+    let given = Walked::new(text, DOC).step(kept, before, &mut stack_of(&[]));
+    assert_eq!(given.given, Given::Refused(kept.unwrap()));
+    assert_eq!(given.after, before);
+    let mut stack = stack_of(&[5]);
+    let escape = stepped(text, place(0, 1), &mut stack);
+    assert_eq!(escape, (22, Some(span(0, 2)), place(0, 1)));
+    let outside = stepped(text, place(1, 0), &mut stack);
+    assert_eq!(outside, (11, Some(span(1, 2)), place(1, 0)));
+    let given = Walked::new(text, DOC).step(None, place(3, 1), &mut stack);
+    let refusal = Refusal {
+        number: 27,
+        span: span(3, 3),
+        note: Some(words::to_span(1, 2)),
+    };
+    assert_eq!(given.given, Given::Refused(refusal));
 }

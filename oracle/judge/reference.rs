@@ -72,7 +72,8 @@ pub fn trace(text: &[u8], doc: DocId) -> Trace {
     }
 }
 
-fn checked(text: &[u8], doc: DocId) -> Result<&str, Refusal> {
+/// Refusals 2 and 1.
+pub fn checked(text: &[u8], doc: DocId) -> Result<&str, Refusal> {
     if text.len() > LONGEST {
         return Err(Refusal::at_start(2, doc));
     }

@@ -2,6 +2,7 @@
 //! oracle/README.md describes the lines.
 
 mod strings;
+mod walk;
 
 use std::collections::HashSet;
 use std::fs::File;
@@ -27,6 +28,7 @@ fn main() {
     lines.extend(span_lines());
     lines.extend(lex_lines());
     lines.extend(string_lines());
+    lines.extend(walk_lines());
     let lines = without_repeats(lines);
     write_lines(calls, lines.iter().map(|line| &line.0));
     write_lines(answers, lines.iter().map(|line| &line.1));
@@ -377,4 +379,14 @@ const SAMPLED_STRINGS: usize = 300;
 fn string_lines() -> Vec<Line> {
     let calls = strings::calls(SEED, SAMPLED_STRINGS);
     calls.iter().map(strings::Call::line).collect()
+}
+
+// The walker.
+
+/// So many texts of the generators, beside the chosen ones.
+const SAMPLED_WALKS: usize = 60;
+
+fn walk_lines() -> Vec<Line> {
+    let calls = walk::calls(SEED, SAMPLED_WALKS);
+    calls.iter().map(walk::Walk::line).collect()
 }

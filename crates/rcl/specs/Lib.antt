@@ -1,2 +1,3 @@
 pub mod Words
 pub mod Strings
+pub mod Walked

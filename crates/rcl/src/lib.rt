@@ -1,6 +1,7 @@
 // The exported interface, for C and Rust. include/rcl.h documents each call.
 mod strings;
 mod tidied;
+mod walked;
 
 pub use strings::rcl_count_common_leading_spaces;
 pub use strings::rcl_is_identifier;
@@ -11,6 +12,9 @@ pub use strings::rcl_unescape_into;
 pub use strings::rcl_value;
 pub use tidied::rcl_hand_check;
 pub use tidied::rcl_tidy;
+pub use walked::rcl_lex_tallied;
+pub use walked::rcl_walker_open;
+pub use walked::rcl_walker_step;
 ghost use mathlib.Core.Path.{_≡_};
 ghost use Rattle.rules.specs.Utf8.{firstBad};
 ghost use Rattle.rules.specs.Lexing.{Lexes};
@@ -55,6 +59,38 @@ pub struct LexedWords {
 pub struct TidiedWords {
     pub lexed: LexedWords,
     pub written: u64,
+}
+
+// What a walker keeps of its opening in words: whether there is a refusal, its number and span.
+#[repr(C)]
+pub struct KeptWords {
+    pub refused: u64,
+    pub number: u64,
+    pub low: u64,
+    pub high: u64,
+}
+
+// A walker's step in words: 0 for a lexeme, 1 for the end, 2 for a refusal; the kind or the number, the span, whether there is a note and its span; where the walker then stands.
+#[repr(C)]
+pub struct SteppedWords {
+    pub answer: u64,
+    pub number: u64,
+    pub low: u64,
+    pub high: u64,
+    pub noted: u64,
+    pub notelow: u64,
+    pub notehigh: u64,
+    pub position: u64,
+    pub depth: u64,
+}
+
+// The result of a counted lexing call in words, and the tally after it.
+#[repr(C)]
+pub struct CountedWords {
+    pub lexed: LexedWords,
+    pub accepted: u64,
+    pub refused: u64,
+    pub steps: u64,
 }
 
 // A number in words, or the refusal: whether it was refused, the refusal's number and span, and the number.

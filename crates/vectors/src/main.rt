@@ -7,6 +7,7 @@ mod spans;
 mod strings;
 mod texts;
 mod tidied;
+mod walks;
 
 ghost use mathlib.Core.Path.{_≡_};
 ghost use lib.ListN.{length};
@@ -68,7 +69,7 @@ fn replay_string(line: &[u8], word: usize, rest: usize) -> bool {
     false
 }
 
-// A line on the tidy writer and handing back: whether it was one.
+// A line on the tidy writer, handing back and the walker: whether it was one.
 fn replay_tidied(line: &[u8], word: usize, rest: usize) -> bool {
     if field::is(line, 0, word, b"tidy") {
         tidied::tidy(line, rest);
@@ -76,6 +77,10 @@ fn replay_tidied(line: &[u8], word: usize, rest: usize) -> bool {
     }
     if field::is(line, 0, word, b"hand") {
         tidied::hand(line, rest);
+        return true;
+    }
+    if field::is(line, 0, word, b"walk") {
+        walks::walk(line, rest);
         return true;
     }
     false

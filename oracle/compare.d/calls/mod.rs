@@ -10,6 +10,7 @@ use judge::respace;
 use judge::source::words;
 use judge::strings::value::Held;
 use judge::strings::{self, Refused};
+use judge::walker::{self, Given};
 
 /// `rcl_lexed` of include/rcl.h.
 #[repr(C)]
@@ -72,6 +73,31 @@ pub struct Valued {
 pub struct Tidied {
     pub lexed: Lexed,
     pub written: u64,
+}
+
+/// `rcl_walker`: what opening keeps.
+#[repr(C)]
+#[derive(Copy, Clone, Debug, Default, Eq, PartialEq)]
+pub struct Walker {
+    pub refused: u64,
+    pub number: u64,
+    pub low: u64,
+    pub high: u64,
+}
+
+/// `rcl_stepped`.
+#[repr(C)]
+#[derive(Copy, Clone, Debug, Default, Eq, PartialEq)]
+pub struct Stepped {
+    pub answer: u64,
+    pub number: u64,
+    pub low: u64,
+    pub high: u64,
+    pub noted: u64,
+    pub note_low: u64,
+    pub note_high: u64,
+    pub position: u64,
+    pub depth: u64,
 }
 
 extern "C" {
@@ -172,6 +198,24 @@ extern "C" {
         output: *mut u8,
         output_len: usize,
     ) -> Tidied;
+
+    pub fn rcl_walker_open(doc: u32, text: *const u8, len: usize) -> Walker;
+
+    pub fn rcl_walker_step(
+        doc: u32,
+        text: *const u8,
+        len: usize,
+        position: usize,
+        depth: usize,
+        kept: u64,
+        kept_number: u8,
+        kept_low: u64,
+        kept_high: u64,
+        stack_kinds: *mut u8,
+        stack_kinds_len: usize,
+        stack_words: *mut u64,
+        stack_words_len: usize,
+    ) -> Stepped;
 }
 
 // What the judge answers, in the words that must come back: 0 where there is nothing to
@@ -279,6 +323,62 @@ impl Valued {
     }
 }
 
+impl Walker {
+    pub fn of(kept: Option<Refusal>) -> Walker {
+        kept.map_or(Walker::default(), |refusal| {
+            let (low, high) = words::of(refusal.span);
+            Walker {
+                refused: 1,
+                number: refusal.number as u64,
+                low,
+                high,
+            }
+        })
+    }
+}
+
+impl Stepped {
+    pub fn of(stepped: &walker::Stepped) -> Stepped {
+        let given = match stepped.given {
+            Given::Lexeme(lexeme) => {
+                let (low, high) = words::of(lexeme.span);
+                Stepped {
+                    answer: 0,
+                    number: lexeme.code as u64,
+                    low,
+                    high,
+                    ..Stepped::default()
+                }
+            }
+            Given::Ended => Stepped {
+                answer: 1,
+                ..Stepped::default()
+            },
+            Given::Refused(refusal) => Stepped::refused(refusal),
+        };
+        Stepped {
+            position: stepped.after.position as u64,
+            depth: stepped.after.depth as u64,
+            ..given
+        }
+    }
+
+    fn refused(refusal: Refusal) -> Stepped {
+        let (low, high) = words::of(refusal.span);
+        let (note_low, note_high) = refusal.note.map_or((0, 0), words::of);
+        Stepped {
+            answer: 2,
+            number: refusal.number as u64,
+            low,
+            high,
+            noted: refusal.note.is_some() as u64,
+            note_low,
+            note_high,
+            ..Stepped::default()
+        }
+    }
+}
+
 /// Which array a part is of, and its ends, as `rcl_hand_check` is given them.
 pub fn part_words(part: Held) -> (u64, usize, usize) {
     match part {
@@ -308,5 +408,17 @@ impl Damage for Parted {
 impl Damage for Valued {
     fn damage(&mut self) {
         self.end ^= 1;
+    }
+}
+
+impl Damage for Walker {
+    fn damage(&mut self) {
+        self.number ^= 1;
+    }
+}
+
+impl Damage for Stepped {
+    fn damage(&mut self) {
+        self.position ^= 1;
     }
 }

@@ -73,7 +73,8 @@ pub fn verdict_and_counts(answer: &Answer) -> String {
     format!("{verdict} ; {lexemes} {steps} {kept} {dropped} {deepest}")
 }
 
-fn written_refusal(refusal: Refusal) -> String {
+/// The refusal with its span, and the note's where there is one.
+pub fn written_refusal(refusal: Refusal) -> String {
     let plain = format!("refused {} {}", refusal.number, written(refusal.span));
     match refusal.note {
         None => plain,

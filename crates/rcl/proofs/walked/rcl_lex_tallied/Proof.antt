@@ -1,0 +1,23 @@
+-- What `lex_tallied` ensures, in words.
+use mathlib.Core.Path.{sym, ap, _∙_}
+use borrow.Author.Needs.{needs}
+use Rattle.rules.specs.Lexing.{Lexed}
+use Rattle.rules.specs.Tally.{Tally, afterCall}
+use Rattle.rcl.specs.Walked.{tallyBy}
+use Rattle.rcl.proofs.walked.rcl_lex_tallied.Statement.{statement}
+use Rattle.rcl.proofs.walked.rcl_lex_tallied.Tie as tie
+
+returns : tie.Need-returns
+returns c =
+    let s = c .before .before .before .before .before .before .before .before .before .before .before in
+    let a = s .before .before .before .before .before .before .before .before .before .before .args in
+    let counted = s .lex-tallied .ensures in
+    let after : Lexed → Tally = afterCall (tallyBy (a .accepted) (a .refused) (a .steps)) in
+    (rw (c .in-words .ensures) (counted .0), counted .1 ∙ ap after (sym (c .in-words .ensures)))
+
+pub rcl-lex-tallied-spec : {M : Type 1} → statement M
+rcl-lex-tallied-spec =
+    tie.close
+    (tie.spec
+    (λ c κs. search needs) (λ c κs. search needs) (λ c. search needs) (λ c. search needs) (λ c. search needs) (λ c. search needs)
+    returns)
