@@ -1,39 +1,11 @@
 //! The calls of include/rcl.h, and the arrays lent to them.
 
-/// `rcl_lexed`.
-#[repr(C)]
-struct Lexed {
-    refused: u64,
-    number: u64,
-    low: u64,
-    high: u64,
-    noted: u64,
-    note_low: u64,
-    note_high: u64,
-    lexemes: u64,
-    steps: u64,
-    kept: u64,
-    dropped: u64,
-    deepest: u64,
-}
+// Two of the calls are measured.
+#[allow(dead_code)]
+#[path = "../bindings/rust/src/raw.rs"]
+mod raw;
 
-extern "C" {
-    fn rcl_utf8(text: *const u8, len: usize) -> u64;
-
-    fn rcl_lex(
-        doc: u32,
-        text: *const u8,
-        len: usize,
-        kinds: *mut u8,
-        kinds_len: usize,
-        words: *mut u64,
-        words_len: usize,
-        stack_kinds: *mut u8,
-        stack_kinds_len: usize,
-        stack_words: *mut u64,
-        stack_words_len: usize,
-    ) -> Lexed;
-}
+use raw::{rcl_lex, rcl_utf8};
 
 pub fn is_utf8(text: &[u8]) -> bool {
     // The pointer and the length are those of a live slice.

@@ -1,16 +1,12 @@
 //! `rcl_scalar_value` and `rcl_unescape_into` beside the published `unescape_into`, on
 //! escapes that the published lexer found; then beside document 01 on calls by hand.
 
-mod calls;
-
-use std::process::ExitCode;
-
-use calls::{rcl_scalar_value, rcl_unescape_into, Answer};
-use judge::arguments::arguments;
+use crate::calls::Answer;
+use crate::room::{Left, Room};
+use judge::arguments::Arguments;
 use judge::generate::escapes::{all_delimited, all_single, all_unicode4, by_hand, ByHand};
 use judge::generate::random::Random;
-use judge::lent::{Lent, LentText};
-use judge::report::{expected_and_found, Ends, Report};
+use judge::report::{quoted, Ends, Report};
 use judge::strings::case::Case;
 use judge::strings::{escapes, is_escape, published, write_piece, Entry, Refused, Result, LONGEST};
 
@@ -19,10 +15,9 @@ const LONGEST_PIECE: usize = 4;
 
 struct Comparison {
     report: Report,
-    ends: Ends,
     random: Random,
-    text: LentText,
-    output: Lent<u8>,
+    room: Room,
+    ends: Ends,
     found: u64,
 }
 
@@ -54,6 +49,7 @@ impl Comparison {
 
     /// The scalar value, and the bytes with ample and with little room.
     fn both(&mut self, text: &[u8], lexeme: Entry, piece: Result<String>) {
+        self.report.inputs.add();
         let scalar = piece
             .as_ref()
             .map(|piece| scalar(piece) as u64)
@@ -88,18 +84,14 @@ impl Comparison {
     }
 
     fn scalar(&mut self, text: &[u8], lexeme: Entry, expected: Result<u64>) {
-        let mut expected = Answer::of(expected);
+        let expected = Answer::of(expected);
         self.ends.add_number(expected.number as u8);
-        self.report.prepare(&mut expected);
-        self.text.put(&mut self.random, text);
-        let Entry { kind, at } = lexeme;
-        // The pointer is that of a live array with at least so many bytes.
-        let found =
-            unsafe { rcl_scalar_value(self.text.pointer(), text.len(), at.low, at.high, kind) };
-        let wrong = (found != expected).then(|| expected_and_found(&expected, &found));
-        let wrong = wrong.or_else(|| self.text.wrong(text));
+        let room = &mut self.room;
+        room.text.put(&mut self.random, text);
+        let found = room.scalar_value(lexeme);
         let name = || format!("scalar of {}", named(text, lexeme));
-        self.report.record_call(text.len(), name, wrong);
+        let wrong = || room.text.wrong(text);
+        self.report.call(text.len(), name, expected, found, wrong);
     }
 
     fn unescape(
@@ -110,56 +102,33 @@ impl Comparison {
         output: usize,
         position: usize,
     ) {
-        self.text.put(&mut self.random, text);
-        self.output.fill(self.random.next(), output);
-        let mut after = self.output.inside().to_vec();
-        let written = written(piece, lexeme, &mut after, position);
-        let mut expected = Answer::of(written);
+        let room = &mut self.room;
+        room.text.put(&mut self.random, text);
+        room.output.fill(self.random.next(), output);
+        let mut after = room.output.inside().to_vec();
+        let expected = Answer::of(written(piece, lexeme, &mut after, position));
         self.ends.add_number(expected.number as u8);
-        self.report.prepare(&mut expected);
-        let wrong = self.wrong(text, lexeme, position, &expected, &after);
+        let found = room.unescape_into(lexeme, position);
+        let left = Left {
+            text,
+            output: &after,
+            ..Left::default()
+        };
         let name = || {
             let call = named(text, lexeme);
             format!("{call}, output of {output}, position {position}")
         };
-        self.report.record_call(text.len() + output, name, wrong);
+        let (size, wrong) = (text.len() + output, || room.wrong(&left));
+        self.report.call(size, name, expected, found, wrong);
     }
 
-    fn wrong(
-        &mut self,
-        text: &[u8],
-        lexeme: Entry,
-        position: usize,
-        expected: &Answer,
-        after: &[u8],
-    ) -> Option<String> {
-        let Entry { kind, at } = lexeme;
-        // Each pointer is that of a live array with at least the length passed beside
-        // it, and the two do not overlap.
-        let found = unsafe {
-            rcl_unescape_into(
-                self.text.pointer(),
-                text.len(),
-                at.low,
-                at.high,
-                kind,
-                self.output.pointer(),
-                self.output.len(),
-                position,
-            )
-        };
-        if found != *expected {
-            return Some(expected_and_found(expected, &found));
-        }
-        let left = self.output.wrong_after(after.iter().copied());
-        left.or_else(|| self.text.wrong(text))
-    }
-
-    fn finish(self) -> ExitCode {
+    fn finish(mut self) -> Report {
         println!("{} escapes of the lexer", self.found);
         println!("given: {}", self.ends.accepted());
         self.ends.print_refusals(std::iter::once(3).chain(40..=46));
-        self.report.finish()
+        self.report.calls = self.room.calls;
+        self.report.ends = self.ends;
+        self.report
     }
 }
 
@@ -191,19 +160,17 @@ fn written(
 
 fn named(text: &[u8], lexeme: Entry) -> String {
     let Entry { kind, at } = lexeme;
-    let (text, start, end) = (text.escape_ascii(), at.start(), at.end());
-    format!("`{text}`, kind {kind}, span {start}-{end}")
+    let (text, start, end) = (quoted(text), at.start(), at.end());
+    format!("{text}, kind {kind}, span {start}-{end}")
 }
 
-fn main() -> ExitCode {
-    let arguments = arguments("compare [--self-test] escapes N SEED");
+pub fn run(arguments: &Arguments) -> Report {
     let mut random = Random::new(arguments.seed);
     let mut comparison = Comparison {
-        report: Report::new(arguments.self_test),
-        ends: Ends::new(),
+        report: Report::new("escapes", arguments),
         random: Random::new(!arguments.seed),
-        text: LentText::new(),
-        output: Lent::new("output"),
+        room: Room::new(),
+        ends: Ends::new(),
         found: 0,
     };
     for escape in all_single() {

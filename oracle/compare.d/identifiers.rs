@@ -1,48 +1,37 @@
 //! `rcl_is_identifier` and `rcl_is_keyword` beside the published functions.
 
-mod calls;
-
-use std::process::ExitCode;
-
-use calls::{rcl_is_identifier, rcl_is_keyword};
-use judge::arguments::arguments;
+use crate::room::Room;
+use judge::arguments::Arguments;
 use judge::generate::random::Random;
-use judge::lent::LentText;
 use judge::report::Report;
 use judge::strings::published::{is_identifier, is_keyword};
 
 struct Comparison {
     report: Report,
     random: Random,
-    room: LentText,
+    room: Room,
     identifiers: u64,
     keywords: u64,
 }
 
 impl Comparison {
     fn compare(&mut self, bytes: &[u8]) {
-        self.room.put(&mut self.random, bytes);
-        let (pointer, len) = (self.room.pointer(), bytes.len());
-        // The pointer is that of a live array with at least so many bytes.
-        let found = unsafe {
-            (
-                rcl_is_identifier(pointer, len),
-                rcl_is_keyword(pointer, len),
-            )
-        };
-        let expected = (is_identifier(bytes), is_keyword(bytes));
-        self.identifiers += expected.0 as u64;
-        self.keywords += expected.1 as u64;
-        self.report
-            .compare(bytes, expected.0 as u64, found.0 as u64);
-        self.report
-            .compare(bytes, expected.1 as u64, found.1 as u64);
+        self.report.inputs.add();
+        self.room.text.put(&mut self.random, bytes);
+        let (identifier, keyword) = (is_identifier(bytes), is_keyword(bytes));
+        self.identifiers += identifier as u64;
+        self.keywords += keyword as u64;
+        let found = self.room.is_identifier();
+        self.report.compare(bytes, identifier as u64, found as u64);
+        let found = self.room.is_keyword();
+        self.report.compare(bytes, keyword as u64, found as u64);
     }
 
-    fn finish(self) -> ExitCode {
+    fn finish(mut self) -> Report {
         println!("identifiers: {}", self.identifiers);
         println!("keywords: {}", self.keywords);
-        self.report.finish()
+        self.report.calls = self.room.calls;
+        self.report
     }
 }
 
@@ -104,12 +93,11 @@ fn random_bytes(random: &mut Random) -> Vec<u8> {
     bytes
 }
 
-fn main() -> ExitCode {
-    let arguments = arguments("compare [--self-test] identifiers N SEED");
+pub fn run(arguments: &Arguments) -> Report {
     let mut comparison = Comparison {
-        report: Report::new(arguments.self_test),
+        report: Report::new("identifiers", arguments),
         random: Random::new(!arguments.seed),
-        room: LentText::new(),
+        room: Room::new(),
         identifiers: 0,
         keywords: 0,
     };

@@ -1,16 +1,12 @@
 //! `rcl_count_common_leading_spaces` beside the published function, on the parts of
 //! strings that the published lexer found.
 
-mod calls;
-
-use std::process::ExitCode;
-
-use calls::{rcl_count_common_leading_spaces, Answer};
-use judge::arguments::arguments;
+use crate::calls::Answer;
+use crate::room::{Left, Room};
+use judge::arguments::Arguments;
 use judge::generate::random::Random;
 use judge::generate::{chosen, strings as string_texts, Texts};
-use judge::lent::{LentList, LentText};
-use judge::report::{expected_and_found, Report};
+use judge::report::{quoted, Report};
 use judge::strings::case::Case;
 use judge::strings::parts::parted;
 use judge::strings::{indent, is_quote_open, published, Entry};
@@ -24,8 +20,7 @@ const OTHERS_ONCE_IN: usize = 4;
 struct Comparison {
     report: Report,
     random: Random,
-    text: LentText,
-    parts: LentList,
+    room: Room,
     strings: u64,
     /// How many strings have an indent that is not 0.
     indented: u64,
@@ -34,6 +29,7 @@ struct Comparison {
 impl Comparison {
     /// Each string of the list that the published lexer makes of the text.
     fn compare(&mut self, bytes: &[u8]) {
+        self.report.inputs.add_text(bytes);
         let Ok(text) = std::str::from_utf8(bytes) else {
             return;
         };
@@ -56,36 +52,23 @@ impl Comparison {
         );
         self.strings += 1;
         self.indented += (count > 0) as u64;
-        let mut expected = Answer::of(Ok(count as u64));
-        self.report.prepare(&mut expected);
-        let wrong = self.wrong(text.as_bytes(), parts, expected);
-        let name = || format!("`{}`, parts {parts:?}", text.as_bytes().escape_ascii());
-        self.report.record_call(text.len(), name, wrong);
-    }
-
-    fn wrong(&mut self, text: &[u8], parts: &[Entry], expected: Answer) -> Option<String> {
-        self.text.put(&mut self.random, text);
-        self.parts.put(&mut self.random, parts);
-        let count = self.count(parts.len());
-        let list = &mut self.parts;
-        // Each pointer is that of a live array with at least the length passed beside it.
-        let found = unsafe {
-            rcl_count_common_leading_spaces(
-                self.text.pointer(),
-                text.len(),
-                list.kinds.pointer(),
-                list.kinds.len(),
-                list.words.pointer(),
-                list.words.len(),
-                count,
-            )
+        let bytes = text.as_bytes();
+        self.room.text.put(&mut self.random, bytes);
+        self.room.list.put(&mut self.random, parts);
+        let said = self.count(parts.len());
+        let found = self.room.indent(said);
+        let left = Left {
+            text: bytes,
+            list: parts,
+            ..Left::default()
         };
-        if found != expected {
-            return Some(expected_and_found(&expected, &found));
-        }
-        self.text
-            .wrong(text)
-            .or_else(|| self.parts.wrong_after(parts))
+        self.report.call(
+            text.len(),
+            || format!("{}, parts {parts:?}", quoted(bytes)),
+            Answer::of(Ok(count as u64)),
+            found,
+            || self.room.wrong(&left),
+        );
     }
 
     /// The parts' number, or more, since the list ends with its places.
@@ -97,19 +80,18 @@ impl Comparison {
         }
     }
 
-    fn finish(self) -> ExitCode {
+    fn finish(mut self) -> Report {
         println!("{} strings, {} with an indent", self.strings, self.indented);
-        self.report.finish()
+        self.report.calls = self.room.calls;
+        self.report
     }
 }
 
-fn main() -> ExitCode {
-    let arguments = arguments("compare [--self-test] indents N SEED");
+pub fn run(arguments: &Arguments) -> Report {
     let mut comparison = Comparison {
-        report: Report::new(arguments.self_test),
+        report: Report::new("indents", arguments),
         random: Random::new(!arguments.seed),
-        text: LentText::new(),
-        parts: LentList::new("kinds", "words"),
+        room: Room::new(),
         strings: 0,
         indented: 0,
     };

@@ -1,13 +1,11 @@
 //! Demand 3 of the published lexer itself, without a call of the library: the counts of
 //! accepted texts, and what re-spacing leaves of them.
 
-use std::process::ExitCode;
-
-use judge::arguments::arguments;
+use judge::arguments::Arguments;
 use judge::codes::SPACE;
 use judge::generate::accepted::{Accepted, Supply};
 use judge::reference::{trace, within, Answer, Trace, AMPLE};
-use judge::report::{expected_and_found, Report};
+use judge::report::{differing, quoted, Report};
 use judge::respace::{bytes_of, respaced};
 use judge::source::DocId;
 
@@ -92,12 +90,12 @@ fn wrong_respaced(text: &[u8], answer: &Answer, spaced: &[u8]) -> Option<String>
     }
     let again = within(&trace, AMPLE, AMPLE);
     let (expected, found) = (lexemes(text, answer), lexemes(spaced, &again));
-    if expected != found {
-        return Some(expected_and_found(&expected, &found));
+    if let Some(wrong) = differing(&expected, &found) {
+        return Some(wrong);
     }
     let twice = respaced(spaced, &again.listed);
     if twice != spaced {
-        return Some(format!("  re-spaced again: `{}`", twice.escape_ascii()));
+        return Some(format!("  re-spaced again: {}", quoted(&twice)));
     }
     wrong_counts(spaced, &trace, &again)
 }
@@ -108,28 +106,22 @@ fn lexemes<'a>(text: &'a [u8], answer: &Answer) -> Vec<(u8, &'a [u8])> {
     lexemes.map(|l| (l.code, bytes_of(text, l))).collect()
 }
 
-fn main() -> ExitCode {
-    let arguments = arguments("compare [--self-test] respacing N SEED");
-    let mut report = Report::new(arguments.self_test);
+pub fn run(arguments: &Arguments) -> Report {
+    let mut report = Report::new("respacing", arguments);
     let mut supply = Supply::new(arguments.seed);
     let mut totals = Totals::default();
     for _ in 0..arguments.count {
         let Accepted { text, trace } = supply.next(DOC);
+        report.inputs.add_text(&text);
         let mut answer = within(&trace, AMPLE, AMPLE);
         let spaced = respaced(&text, &answer.listed);
         totals.add(&text, &answer, &spaced);
         report.prepare(&mut answer);
         let wrong = wrong_counts(&text, &trace, &answer);
         let wrong = wrong.or_else(|| wrong_respaced(&text, &answer, &spaced));
-        let name = || {
-            format!(
-                "`{}`, re-spaced `{}`",
-                text.escape_ascii(),
-                spaced.escape_ascii()
-            )
-        };
+        let name = || format!("{}, re-spaced {}", quoted(&text), quoted(&spaced));
         report.record_call(text.len(), name, wrong);
     }
     totals.print(supply.refused);
-    report.finish()
+    report
 }

@@ -1,21 +1,16 @@
 //! All calls on strings beside document 01, on lists that the lexer made and on lists
 //! made by hand: every word of the answers, and what every lent array holds afterwards.
 
-mod calls;
-
-use std::process::ExitCode;
-
-use calls::{rcl_count_common_leading_spaces, rcl_is_identifier, rcl_is_keyword, rcl_lex};
-use calls::{rcl_parts, rcl_scalar_value, rcl_unescape_into, rcl_value};
-use calls::{Answer, Parted, Valued};
-use judge::arguments::arguments;
+use crate::calls::{Answer, Parted, Valued};
+use crate::room::{Left, Places, Room};
+use crate::values::Values;
+use judge::arguments::Arguments;
 use judge::generate::cases::Cases;
 use judge::generate::chosen;
 use judge::generate::random::Random;
-use judge::lent::{Lent, LentList, LentText};
-use judge::report::{expected_and_found, Damage, Ends, Report};
+use judge::report::{differing, quoted, Damage, Ends, Report};
+use judge::source::DocId;
 use judge::strings::case::Case;
-use judge::strings::value::Held;
 use judge::strings::{counted, escapes, indent, published, Entry, Words};
 
 /// Texts have about so many bytes at most; one in `LONG_ONCE_IN` has more.
@@ -23,160 +18,17 @@ const SHORT: usize = 60;
 const LONG: usize = 600;
 const LONG_ONCE_IN: usize = 50;
 
-// What is lent.
-
-/// The text and the arrays, used again for each call.
-struct Room {
-    text: LentText,
-    list: LentList,
-    parts: LentList,
-    output: Lent<u8>,
-}
-
-impl Room {
-    fn new() -> Room {
-        Room {
-            text: LentText::new(),
-            list: LentList::new("kinds", "words"),
-            parts: LentList::new("part_kinds", "part_words"),
-            output: Lent::new("output"),
-        }
-    }
-
-    fn put(&mut self, random: &mut Random, case: &Case) {
-        self.text.put(random, &case.text);
-        self.list.put(random, &case.list);
-        self.parts.fill(random, case.room);
-        self.output.fill(random.next(), case.output);
-    }
-
-    // In each of these calls a pointer is that of a live array with at least the length
-    // passed beside it, and no two of them overlap.
-
-    fn parts(&mut self, case: &Case) -> Parted {
-        unsafe {
-            rcl_parts(
-                self.list.kinds.pointer(),
-                self.list.kinds.len(),
-                self.list.words.pointer(),
-                self.list.words.len(),
-                case.count,
-                case.place,
-                self.parts.kinds.pointer(),
-                self.parts.kinds.len(),
-                self.parts.words.pointer(),
-                self.parts.words.len(),
-            )
-        }
-    }
-
-    fn value(&mut self, case: &Case) -> Valued {
-        unsafe {
-            rcl_value(
-                self.text.pointer(),
-                case.text.len(),
-                self.list.kinds.pointer(),
-                self.list.kinds.len(),
-                self.list.words.pointer(),
-                self.list.words.len(),
-                case.count,
-                case.place,
-                self.parts.kinds.pointer(),
-                self.parts.kinds.len(),
-                self.parts.words.pointer(),
-                self.parts.words.len(),
-                self.output.pointer(),
-                self.output.len(),
-                case.position,
-            )
-        }
-    }
-
-    /// The list taken for a parts list.
-    fn indent(&mut self, case: &Case) -> Answer {
-        unsafe {
-            rcl_count_common_leading_spaces(
-                self.text.pointer(),
-                case.text.len(),
-                self.list.kinds.pointer(),
-                self.list.kinds.len(),
-                self.list.words.pointer(),
-                self.list.words.len(),
-                case.count,
-            )
-        }
-    }
-
-    fn scalar(&mut self, case: &Case, lexeme: Entry) -> Answer {
-        let Entry { kind, at } = lexeme;
-        let (pointer, len) = (self.text.pointer(), case.text.len());
-        unsafe { rcl_scalar_value(pointer, len, at.low, at.high, kind) }
-    }
-
-    fn unescape(&mut self, case: &Case, lexeme: Entry) -> Answer {
-        let Entry { kind, at } = lexeme;
-        unsafe {
-            rcl_unescape_into(
-                self.text.pointer(),
-                case.text.len(),
-                at.low,
-                at.high,
-                kind,
-                self.output.pointer(),
-                self.output.len(),
-                case.position,
-            )
-        }
-    }
-
-    fn names(&mut self, len: usize) -> (bool, bool) {
-        let pointer = self.text.pointer();
-        unsafe {
-            (
-                rcl_is_identifier(pointer, len),
-                rcl_is_keyword(pointer, len),
-            )
-        }
-    }
-
-    /// What a call left that it should not have.
-    fn wrong(&self, case: &Case, parts: &[Entry], output: &[u8]) -> Option<String> {
-        let text = self.text.wrong(&case.text);
-        text.or_else(|| self.list.wrong_after(&case.list))
-            .or_else(|| self.parts.wrong_after(parts))
-            .or_else(|| self.output.wrong_after(output.iter().copied()))
-    }
-}
-
-// The comparison.
-
 struct Comparison {
     report: Report,
     random: Random,
     room: Room,
-    cases: u64,
-    values: Ends,
+    values: Values,
     others: Ends,
-    in_text: u64,
-    in_output: u64,
 }
 
 impl Comparison {
-    fn new(self_test: bool, seed: u64) -> Comparison {
-        Comparison {
-            report: Report::new(self_test),
-            random: Random::new(!seed),
-            room: Room::new(),
-            cases: 0,
-            values: Ends::new(),
-            others: Ends::new(),
-            in_text: 0,
-            in_output: 0,
-        }
-    }
-
     fn compare(&mut self, case: &Case) {
-        self.cases += 1;
+        self.report.inputs.add();
         self.value(case);
         let parts = self.parts(case);
         self.indent(case);
@@ -193,38 +45,31 @@ impl Comparison {
         self.names(case);
     }
 
-    fn value(&mut self, case: &Case) {
-        self.room.put(&mut self.random, case);
-        let mut output = self.room.output.inside().to_vec();
-        let valued = case.valued(&mut output);
-        self.count(&valued.value);
-        let found = self.room.value(case);
-        self.record(
-            "value",
-            case,
-            Valued::of(&valued),
-            found,
-            &valued.parts,
-            &output,
-        );
+    /// Everything that the case says, and what is in the output before the call.
+    fn lend(&mut self, case: &Case) -> Vec<u8> {
+        let (room, random) = (&mut self.room, &mut self.random);
+        room.text.put(random, &case.text);
+        room.list.put(random, &case.list);
+        room.parts.fill(random, case.room);
+        room.output.fill(random.next(), case.output);
+        room.output.inside().to_vec()
     }
 
-    /// How often the value was text, was output, or was refused.
-    fn count(&mut self, value: &judge::strings::Result<Held>) {
-        match value {
-            Ok(Held::Text { .. }) => self.in_text += 1,
-            Ok(Held::Output { .. }) => self.in_output += 1,
-            Err(refused) => self.values.add_number(refused.number),
-        }
+    fn value(&mut self, case: &Case) {
+        let mut output = self.lend(case);
+        let valued = case.valued(&mut output);
+        self.values.add(&valued.value);
+        let found = self.room.value(case.count, case.place, case.position);
+        let expected = Valued::of(&valued);
+        self.record("value", case, expected, found, &valued.parts, &output);
     }
 
     fn parts(&mut self, case: &Case) -> Vec<Entry> {
-        self.room.put(&mut self.random, case);
-        let output = self.room.output.inside().to_vec();
+        let output = self.lend(case);
         let parted = case.parted();
         let expected = Parted::of(&parted);
         self.others.add_number(expected.number as u8);
-        let found = self.room.parts(case);
+        let found = self.room.parts(case.count, case.place);
         self.record("parts", case, expected, found, &parted.parts, &output);
         parted.parts
     }
@@ -232,17 +77,17 @@ impl Comparison {
     fn indent(&mut self, case: &Case) {
         let expected = indent::indent(&case.text, counted(&case.list, case.count));
         let expected = Answer::of(expected.map(|spaces| spaces as u64));
-        self.only_text("indent", case, expected, |room| room.indent(case));
+        self.reading("indent", case, expected, |room| room.indent(case.count));
     }
 
     fn scalar(&mut self, case: &Case, lexeme: Entry) {
         let expected = escapes::scalar(&case.text, lexeme.at, lexeme.kind);
         let expected = Answer::of(expected.map(|scalar| scalar as u64));
-        self.only_text("scalar", case, expected, |room| room.scalar(case, lexeme));
+        self.reading("scalar", case, expected, |room| room.scalar_value(lexeme));
     }
 
     /// A call that writes to no array.
-    fn only_text(
+    fn reading(
         &mut self,
         call: &str,
         case: &Case,
@@ -250,20 +95,18 @@ impl Comparison {
         found: impl Fn(&mut Room) -> Answer,
     ) {
         self.others.add_number(expected.number as u8);
-        self.room.put(&mut self.random, case);
-        let output = self.room.output.inside().to_vec();
+        let output = self.lend(case);
         let found = found(&mut self.room);
         self.record(call, case, expected, found, &[], &output);
     }
 
     fn unescape(&mut self, case: &Case, lexeme: Entry) {
-        self.room.put(&mut self.random, case);
-        let mut output = self.room.output.inside().to_vec();
+        let mut output = self.lend(case);
         let Entry { kind, at } = lexeme;
         let written = escapes::unescape(&case.text, at, kind, &mut output, case.position);
         let expected = Answer::of(written.map(|bytes| bytes as u64));
         self.others.add_number(expected.number as u8);
-        let found = self.room.unescape(case, lexeme);
+        let found = self.room.unescape_into(lexeme, case.position);
         self.record("unescape", case, expected, found, &[], &output);
     }
 
@@ -287,15 +130,14 @@ impl Comparison {
         let len = self.random.below(case.text.len().min(6) + 1);
         let bytes = &case.text[..len];
         self.room.text.put(&mut self.random, bytes);
-        let found = self.room.names(len);
-        let expected = (
+        let found = (self.room.is_identifier(), self.room.is_keyword());
+        let (identifier, keyword) = (
             published::is_identifier(bytes),
             published::is_keyword(bytes),
         );
         self.report
-            .compare(bytes, expected.0 as u64, found.0 as u64);
-        self.report
-            .compare(bytes, expected.1 as u64, found.1 as u64);
+            .compare(bytes, identifier as u64, found.0 as u64);
+        self.report.compare(bytes, keyword as u64, found.1 as u64);
     }
 
     /// Counts one call. `parts` and `output` are what the arrays must hold then.
@@ -303,32 +145,69 @@ impl Comparison {
         &mut self,
         call: &str,
         case: &Case,
-        mut expected: T,
+        expected: T,
         found: T,
         parts: &[Entry],
         output: &[u8],
     ) {
-        self.report.prepare(&mut expected);
-        let wrong = (found != expected).then(|| expected_and_found(&expected, &found));
-        let wrong = wrong.or_else(|| self.room.wrong(case, parts, output));
-        let size = case.text.len() + case.list.len() + case.output;
-        self.report.record_call(size, || named(call, case), wrong);
+        let left = Left {
+            text: &case.text,
+            list: &case.list,
+            parts,
+            output,
+            ..Left::default()
+        };
+        self.report.call(
+            case.text.len() + case.list.len() + case.output,
+            || named(call, case),
+            expected,
+            found,
+            || self.room.wrong(&left),
+        );
     }
 
-    fn finish(self) -> ExitCode {
-        println!("{} cases", self.cases);
-        println!("values in the text: {}", self.in_text);
-        println!("values in the output: {}", self.in_output);
-        println!("values refused:");
-        self.values.print_refusals(refusals());
+    /// Marked pairs j and k through the exported calls: lexed, then valued.
+    fn marked(&mut self) {
+        let mut room = Room::new();
+        for (text, expected) in chosen::MARKED {
+            let found = lexed_and_valued(&mut room, text);
+            let wrong = differing(&expected.map(<[u8]>::to_vec), &found);
+            self.report.record(text, wrong);
+        }
+        self.report.calls += room.calls;
+    }
+
+    fn finish(mut self) -> Report {
+        println!("{} lists", self.report.inputs.count());
+        self.values.print(refusals());
         println!("other calls given: {}; refused:", self.others.accepted());
         self.others.print_refusals(refusals());
-        self.report.finish()
+        self.report.calls += self.room.calls;
+        self.report.ends = self.others;
+        self.report.ends.add_all(&self.values.refused);
+        self.report
+    }
+}
+
+/// The value's bytes, or its refusal's number.
+fn lexed_and_valued(room: &mut Room, text: &[u8]) -> Result<Vec<u8>, u8> {
+    let random = &mut Random::new(0);
+    room.text.put(random, text);
+    room.lend_places(random, Places { list: 3, stack: 1 });
+    room.parts.fill(random, 1);
+    room.output.fill(random.next(), 1);
+    let lexed = room.lex(DocId(7));
+    let valued = room.value(lexed.lexemes as usize, 0, 0);
+    let part = valued.start as usize..valued.end as usize;
+    match (valued.refused, valued.in_output) {
+        (0, 0) => Ok(text[part].to_vec()),
+        (0, _) => Ok(room.output.inside()[part].to_vec()),
+        _ => Err(valued.number as u8),
     }
 }
 
 /// Those that calls on strings can give.
-fn refusals() -> impl Iterator<Item = usize> {
+fn refusals() -> impl Iterator<Item = u8> {
     [3, 31].into_iter().chain(40..=46).chain([50])
 }
 
@@ -341,8 +220,8 @@ fn named(call: &str, case: &Case) -> String {
     };
     let list: String = case.list.iter().map(lexeme).collect();
     format!(
-        "{call} `{}`, count {}, place {}, parts list of {}, output of {}, position {}, list{list}",
-        case.text.escape_ascii(),
+        "{call} {}, count {}, place {}, parts list of {}, output of {}, position {}, list{list}",
+        quoted(&case.text),
         case.count,
         case.place,
         case.room,
@@ -351,70 +230,15 @@ fn named(call: &str, case: &Case) -> String {
     )
 }
 
-// Marked pairs j and k through the exported calls: lexed, then valued.
-
-const PLACES: usize = 8;
-
-fn marked(comparison: &mut Comparison) {
-    for (text, expected) in chosen::MARKED {
-        let found = lexed_and_valued(text);
-        let wrong =
-            (found != expected.map(<[u8]>::to_vec)).then(|| expected_and_found(&expected, &found));
-        comparison.report.record(text, wrong);
-    }
-}
-
-/// The value's bytes, or its refusal's number.
-fn lexed_and_valued(text: &[u8]) -> Result<Vec<u8>, u8> {
-    let mut kinds = [0; PLACES];
-    let mut words = [0; 2 * PLACES];
-    let (mut stack_kinds, mut stack_words) = ([0; PLACES], [0; 2 * PLACES]);
-    let (mut part_kinds, mut part_words) = ([0; PLACES], [0; 2 * PLACES]);
-    let mut output = [0; PLACES];
-    // Each pointer is that of an array with the length passed beside it.
-    let valued = unsafe {
-        let lexed = rcl_lex(
-            7,
-            text.as_ptr(),
-            text.len(),
-            kinds.as_mut_ptr(),
-            kinds.len(),
-            words.as_mut_ptr(),
-            words.len(),
-            stack_kinds.as_mut_ptr(),
-            stack_kinds.len(),
-            stack_words.as_mut_ptr(),
-            stack_words.len(),
-        );
-        rcl_value(
-            text.as_ptr(),
-            text.len(),
-            kinds.as_ptr(),
-            kinds.len(),
-            words.as_ptr(),
-            words.len(),
-            lexed.lexemes as usize,
-            0,
-            part_kinds.as_mut_ptr(),
-            part_kinds.len(),
-            part_words.as_mut_ptr(),
-            part_words.len(),
-            output.as_mut_ptr(),
-            output.len(),
-            0,
-        )
+pub fn run(arguments: &Arguments) -> Report {
+    let mut comparison = Comparison {
+        report: Report::new("strings", arguments),
+        random: Random::new(!arguments.seed),
+        room: Room::new(),
+        values: Values::new(),
+        others: Ends::new(),
     };
-    match (valued.refused, valued.in_output) {
-        (0, 0) => Ok(text[valued.start as usize..valued.end as usize].to_vec()),
-        (0, _) => Ok(output[valued.start as usize..valued.end as usize].to_vec()),
-        _ => Err(valued.number as u8),
-    }
-}
-
-fn main() -> ExitCode {
-    let arguments = arguments("compare [--self-test] strings N SEED");
-    let mut comparison = Comparison::new(arguments.self_test, arguments.seed);
-    marked(&mut comparison);
+    comparison.marked();
     for case in chosen::cases() {
         comparison.compare(&case);
     }

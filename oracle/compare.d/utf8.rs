@@ -1,17 +1,12 @@
 //! The UTF-8 check beside the standard library's.
 
-use std::process::ExitCode;
-
-use judge::arguments::arguments;
+use crate::calls::rcl_utf8;
+use judge::arguments::Arguments;
 use judge::generate::random::Random;
 use judge::generate::utf8::{bad_sequence, sequence};
 use judge::report::Report;
 
-extern "C" {
-    /// `u64::MAX` for UTF-8, else the offset where the first bad sequence begins.
-    fn rcl_utf8(text: *const u8, len: usize) -> u64;
-}
-
+/// `u64::MAX` for UTF-8, else the offset where the first bad sequence begins.
 fn found(text: &[u8]) -> u64 {
     // The pointer and the length are those of a live slice.
     unsafe { rcl_utf8(text.as_ptr(), text.len()) }
@@ -25,6 +20,8 @@ fn expected(text: &[u8]) -> u64 {
 }
 
 fn compare(report: &mut Report, text: &[u8]) {
+    report.inputs.add();
+    report.calls += 1;
     report.compare(text, expected(text), found(text));
 }
 
@@ -84,9 +81,8 @@ fn compare_shifted(report: &mut Report, random: &mut Random, text: &[u8]) {
     compare(report, &room[shift..]);
 }
 
-fn main() -> ExitCode {
-    let arguments = arguments("compare [--self-test] utf8 N SEED");
-    let mut report = Report::new(arguments.self_test);
+pub fn run(arguments: &Arguments) -> Report {
+    let mut report = Report::new("utf8", arguments);
     all_short(&mut report, b"");
     all_short(&mut report, &[b'a'; 30]);
     all_four(&mut report);
@@ -95,5 +91,5 @@ fn main() -> ExitCode {
         let text = random_text(&mut random);
         compare_shifted(&mut report, &mut random, &text);
     }
-    report.finish()
+    report
 }

@@ -1,19 +1,18 @@
 //! `rcl_value` and `rcl_hand_check` beside document 01, on lists that `rcl_lex` made of
 //! accepted texts; and on each text beside its re-spaced text, with equal memory.
 
-mod calls;
+use std::fmt::Debug;
 
-use std::process::ExitCode;
-
-use calls::{part_words, rcl_hand_check, rcl_lex, rcl_value, Answer, Lexed, Valued};
-use judge::arguments::arguments;
+use crate::calls::{Answer, Lexed, Valued};
+use crate::room::{Left, Places, Room};
+use crate::subject::{joined, Subject};
+use judge::arguments::Arguments;
 use judge::generate::accepted::{Accepted, Supply};
 use judge::generate::cases::{memory, Memory};
 use judge::generate::parts::part;
 use judge::generate::random::Random;
-use judge::lent::{Lent, LentList, LentText};
-use judge::reference::{self, trace, within, Trace, AMPLE};
-use judge::report::{expected_and_found, Damage, Ends, Report};
+use judge::reference::{self, within, AMPLE};
+use judge::report::{differing, quoted, Damage, Ends, Report};
 use judge::respace::respaced;
 use judge::source::DocId;
 use judge::strings::hand::handed;
@@ -30,26 +29,44 @@ const MEMORIES: usize = 2;
 /// One text in so many is lexed with too little memory.
 const LITTLE_ONCE_IN: usize = 8;
 
-/// The places of list and stack.
-#[derive(Copy, Clone, Debug)]
-struct Places {
-    list: usize,
-    stack: usize,
+/// How often the value was text, was output, or was refused.
+pub struct Values {
+    in_text: u64,
+    in_output: u64,
+    pub refused: Ends,
 }
 
-// What is lent.
+impl Values {
+    pub fn new() -> Values {
+        Values {
+            in_text: 0,
+            in_output: 0,
+            refused: Ends::new(),
+        }
+    }
 
-/// One of the two texts, and the arrays that are lent for it.
-struct Side {
-    bytes: Vec<u8>,
-    doc: DocId,
+    pub fn add(&mut self, value: &strings::Result<Held>) {
+        match value {
+            Ok(Held::Text { .. }) => self.in_text += 1,
+            Ok(Held::Output { .. }) => self.in_output += 1,
+            Err(refused) => self.refused.add_number(refused.number),
+        }
+    }
+
+    pub fn print(&self, numbers: impl Iterator<Item = u8>) {
+        println!("values in the text: {}", self.in_text);
+        println!("values in the output: {}", self.in_output);
+        println!("values refused:");
+        self.refused.print_refusals(numbers);
+    }
+}
+
+/// One of the two texts, what lexing it must give, and what is lent for it.
+struct Side<'a> {
+    room: &'a mut Room,
+    subject: Subject,
     answer: reference::Answer,
     listed: Vec<Entry>,
-    text: LentText,
-    list: LentList,
-    stack: LentList,
-    parts: LentList,
-    output: Lent<u8>,
 }
 
 /// What must be the same of two lexings: the refusal's number, kinds and bytes.
@@ -66,126 +83,52 @@ struct Value {
     output: Vec<u8>,
 }
 
-impl Side {
-    fn new() -> Side {
+impl<'a> Side<'a> {
+    fn new(room: &'a mut Room, random: &mut Random, subject: Subject, places: Places) -> Side<'a> {
+        subject.lend(random, room);
+        let answer = within(&subject.trace, places.list, places.stack);
         Side {
-            bytes: Vec::new(),
-            doc: DocId(0),
-            answer: within(&trace(b"", DocId(0)), 0, 0),
-            listed: Vec::new(),
-            text: LentText::new(),
-            list: LentList::new("kinds", "words"),
-            stack: LentList::new("stack_kinds", "stack_words"),
-            parts: LentList::new("part_kinds", "part_words"),
-            output: Lent::new("output"),
+            room,
+            subject,
+            listed: entries(&answer.listed),
+            answer,
         }
     }
 
-    /// A text, and what lexing it with so many places must give.
-    fn put(
-        &mut self,
-        random: &mut Random,
-        bytes: Vec<u8>,
-        doc: DocId,
-        trace: &Trace,
-        places: Places,
-    ) {
-        self.text.put(random, &bytes);
-        self.answer = within(trace, places.list, places.stack);
-        self.listed = entries(&self.answer.listed);
-        (self.bytes, self.doc) = (bytes, doc);
+    fn text(&self) -> &[u8] {
+        &self.subject.text
     }
 
-    // In each of these calls a pointer is that of a live array with at least the length
-    // passed beside it, and no two of them overlap.
-
-    /// The same lengths and patterns for the same seed.
-    fn lex(&mut self, seed: u64, places: Places) -> Lexed {
+    /// Parts list and output anew, the same for the same seed.
+    fn lend(&mut self, seed: u64, memory: Memory) {
         let mut random = Random::new(seed);
-        self.list.fill(&mut random, places.list);
-        self.stack.fill(&mut random, places.stack);
-        unsafe {
-            rcl_lex(
-                self.doc.0,
-                self.text.pointer(),
-                self.bytes.len(),
-                self.list.kinds.pointer(),
-                self.list.kinds.len(),
-                self.list.words.pointer(),
-                self.list.words.len(),
-                self.stack.kinds.pointer(),
-                self.stack.kinds.len(),
-                self.stack.words.pointer(),
-                self.stack.words.len(),
-            )
-        }
-    }
-
-    /// Parts list and output anew.
-    fn fill(&mut self, seed: u64, memory: Memory) {
-        let mut random = Random::new(seed);
-        self.parts.fill(&mut random, memory.room);
-        self.output.fill(random.next(), memory.output);
-    }
-
-    fn value(&mut self, place: usize, position: usize) -> Valued {
-        unsafe {
-            rcl_value(
-                self.text.pointer(),
-                self.bytes.len(),
-                self.list.kinds.pointer(),
-                self.list.kinds.len(),
-                self.list.words.pointer(),
-                self.list.words.len(),
-                self.listed.len(),
-                place,
-                self.parts.kinds.pointer(),
-                self.parts.kinds.len(),
-                self.parts.words.pointer(),
-                self.parts.words.len(),
-                self.output.pointer(),
-                self.output.len(),
-                position,
-            )
-        }
-    }
-
-    fn hand_check(&mut self, part: Held) -> Answer {
-        let (which, start, end) = part_words(part);
-        unsafe {
-            rcl_hand_check(
-                self.text.pointer(),
-                self.bytes.len(),
-                self.output.pointer(),
-                self.output.len(),
-                which,
-                start,
-                end,
-            )
-        }
+        self.room.parts.fill(&mut random, memory.room);
+        self.room.output.fill(random.next(), memory.output);
     }
 
     /// What a call left that it should not have.
     fn wrong(&self, parts: &[Entry], output: &[u8]) -> Option<String> {
-        self.text
-            .wrong(&self.bytes)
-            .or_else(|| self.list.wrong_after(&self.listed))
-            .or_else(|| self.stack.wrong_beyond(self.answer.counts.deepest))
-            .or_else(|| self.parts.wrong_after(parts))
-            .or_else(|| self.output.wrong_after(output.iter().copied()))
+        self.room.wrong(&Left {
+            text: self.text(),
+            list: &self.listed,
+            deepest: self.answer.counts.deepest,
+            parts,
+            output,
+        })
     }
 
     /// The lexing, from what the library left in the list.
     fn lexing(&mut self, found: Lexed) -> Lexing {
-        let kinds = self.list.kinds.inside().iter();
-        let words = self.list.words.inside().chunks_exact(2);
+        let text = &self.subject.text;
+        let kinds = self.room.list.kinds.inside().iter();
+        let words = self.room.list.words.inside().chunks_exact(2);
         let listed = kinds.zip(words).take(found.lexemes as usize);
         let lexeme = |(kind, words): (&u8, &[u64])| {
             let at = Words {
                 low: words[0],
                 high: words[1],
             };
-            let bytes = self.bytes.get(at.start() as usize..at.end() as usize);
+            let bytes = text.get(at.start() as usize..at.end() as usize);
             (*kind, bytes.unwrap_or(b"outside").to_vec())
         };
         (found.number, listed.map(lexeme).collect())
@@ -193,12 +136,12 @@ impl Side {
 
     /// The value, from what the library answered and left.
     fn outcome(&mut self, found: Valued) -> Value {
-        let part_kinds = self.parts.kinds.inside();
+        let part_kinds = self.room.parts.kinds.inside();
         let parts = part_kinds.len().min(found.parts as usize);
         let parts = part_kinds[..parts].to_vec();
-        let output = self.output.inside().to_vec();
+        let output = self.room.output.inside().to_vec();
         let holder = match found.in_output {
-            0 => &self.bytes,
+            0 => self.text(),
             _ => &output,
         };
         let bytes = holder.get(found.start as usize..found.end as usize);
@@ -217,39 +160,25 @@ impl Side {
 struct Comparison {
     report: Report,
     random: Random,
-    texts: u64,
     strings: u64,
-    values: Ends,
-    in_text: u64,
-    in_output: u64,
+    lexings: Ends,
+    values: Values,
     hands: Ends,
 }
 
 impl Comparison {
-    fn new(self_test: bool, seed: u64) -> Comparison {
-        Comparison {
-            report: Report::new(self_test),
-            random: Random::new(!seed),
-            texts: 0,
-            strings: 0,
-            values: Ends::new(),
-            in_text: 0,
-            in_output: 0,
-            hands: Ends::new(),
-        }
-    }
-
     /// A text and its re-spaced text: both lexed, then read at the same places.
-    fn compare(&mut self, accepted: Accepted, doc: DocId, sides: &mut [Side; 2]) {
-        self.texts += 1;
-        let whole = within(&accepted.trace, AMPLE, AMPLE);
-        let spaced = respaced(&accepted.text, &whole.listed);
-        let spaced_doc = DocId(self.random.next() as u32);
-        let spaced_trace = trace(&spaced, spaced_doc);
+    fn compare(&mut self, subject: Subject, rooms: &mut [Room; 2]) {
+        self.report.inputs.add_text(&subject.text);
+        let whole = within(&subject.trace, AMPLE, AMPLE);
+        let spaced = respaced(&subject.text, &whole.listed);
+        let spaced = Subject::new(spaced, DocId(self.random.next() as u32));
         let places = self.places(&whole);
-        let random = &mut self.random;
-        sides[0].put(random, accepted.text, doc, &accepted.trace, places);
-        sides[1].put(random, spaced, spaced_doc, &spaced_trace, places);
+        let [first, second] = rooms;
+        let sides = &mut [
+            Side::new(first, &mut self.random, subject, places),
+            Side::new(second, &mut self.random, spaced, places),
+        ];
         self.lex(sides, places);
         for place in self.openers(&sides[0].listed) {
             for _ in 0..MEMORIES {
@@ -286,13 +215,14 @@ impl Comparison {
             position: 0,
         };
         let outcomes = sides.each_mut().map(|side| {
-            side.fill(seed, none);
-            let found = side.lex(seed, places);
+            side.lend(seed, none);
+            side.room.lend_places(&mut Random::new(seed), places);
+            self.lexings.add(&side.answer);
+            let found = side.room.lex(side.subject.doc);
             let expected = Lexed::of(&side.answer);
-            let wrong = (found != expected).then(|| expected_and_found(&expected, &found));
-            let wrong = wrong.or_else(|| side.wrong(&[], &[]));
-            let name = || format!("lexing `{}`, {places:?}", side.bytes.escape_ascii());
-            self.report.record_call(side.bytes.len(), name, wrong);
+            let wrong = side.wrong(&[], &[]);
+            let call = || format!("lexing, {places:?},");
+            self.record(side, call, expected, found, wrong);
             side.lexing(found)
         });
         self.pair(&sides[0], &format!("{places:?}"), outcomes);
@@ -316,9 +246,9 @@ impl Comparison {
         let (parts, bytes) = needed(&sides[0], place);
         let memory = memory(&mut self.random, parts, bytes);
         let seed = self.random.next();
-        let by_hand = part(&mut self.random, sides[0].bytes.len(), memory.output);
+        let by_hand = part(&mut self.random, sides[0].text().len(), memory.output);
         let outcomes = sides.each_mut().map(|side| {
-            side.fill(seed, memory);
+            side.lend(seed, memory);
             let outcome = self.value(side, place, memory);
             self.hand(side, by_hand);
             outcome
@@ -328,18 +258,12 @@ impl Comparison {
 
     /// The value call and the check of what it answers.
     fn value(&mut self, side: &mut Side, place: usize, memory: Memory) -> Value {
-        let mut output = side.output.inside().to_vec();
+        let mut output = side.room.output.inside().to_vec();
         let (room, position) = (memory.room, memory.position);
-        let expected = valued(
-            &side.bytes,
-            &side.listed,
-            place,
-            room,
-            &mut output,
-            position,
-        );
-        self.count(&expected.value);
-        let found = side.value(place, position);
+        let (text, listed) = (side.text(), &side.listed);
+        let expected = valued(text, listed, place, room, &mut output, position);
+        self.values.add(&expected.value);
+        let found = side.room.value(side.listed.len(), place, position);
         let wrong = side.wrong(&expected.parts, &output);
         let call = || format!("value at place {place}, {memory:?},");
         self.record(side, call, Valued::of(&expected), found, wrong);
@@ -351,76 +275,67 @@ impl Comparison {
         outcome
     }
 
-    fn count(&mut self, value: &strings::Result<Held>) {
-        match value {
-            Ok(Held::Text { .. }) => self.in_text += 1,
-            Ok(Held::Output { .. }) => self.in_output += 1,
-            Err(refused) => self.values.add_number(refused.number),
-        }
-    }
-
     /// The check of a part. Both arrays are only read.
     fn hand(&mut self, side: &mut Side, part: Held) {
-        let output = side.output.inside().to_vec();
-        let expected = Answer::of(handed(&side.bytes, &output, part).map(|_| 0));
+        let output = side.room.output.inside().to_vec();
+        let expected = Answer::of(handed(side.text(), &output, part).map(|_| 0));
         self.hands.add_number(expected.number as u8);
-        let found = side.hand_check(part);
-        let kept = side.output.wrong_after(output.iter().copied());
-        let wrong = side.text.wrong(&side.bytes).or(kept);
+        let found = side.room.hand_check(part);
+        let kept = side.room.output.wrong_after(output.iter().copied());
+        let wrong = side.room.text.wrong(side.text()).or(kept);
         let call = || format!("check of {part:?}, output of {}, text", output.len());
         self.record(side, call, expected, found, wrong);
     }
 
     /// The bytes that the answer names are those that are handed back.
     fn handed(&mut self, side: &Side, part: Held, output: &[u8], outcome: &Value) {
-        let expected = handed(&side.bytes, output, part).expect("The value's own part.");
-        let found = &outcome.bytes[..];
-        let wrong = (found != expected).then(|| expected_and_found(&expected, &found));
-        let name = || format!("handed `{}`, {part:?}", side.bytes.escape_ascii());
-        self.report.record_call(side.bytes.len(), name, wrong);
+        let expected = handed(side.text(), output, part).expect("The value's own part.");
+        let name = || format!("handed {}, {part:?}", quoted(side.text()));
+        let wrong = differing(&expected, &&outcome.bytes[..]);
+        self.report.record_call(side.text().len(), name, wrong);
     }
 
-    fn record<T: Damage + PartialEq + std::fmt::Debug>(
+    fn record<T: Damage + PartialEq + Debug>(
         &mut self,
         side: &Side,
         call: impl Fn() -> String,
-        mut expected: T,
+        expected: T,
         found: T,
         wrong: Option<String>,
     ) {
-        self.report.prepare(&mut expected);
-        let differs = (found != expected).then(|| expected_and_found(&expected, &found));
-        let name = || format!("{} of `{}`", call(), side.bytes.escape_ascii());
-        self.report
-            .record_call(side.bytes.len(), name, differs.or(wrong));
+        let name = || format!("{} of {}", call(), quoted(side.text()));
+        let size = side.text().len();
+        self.report.call(size, name, expected, found, || wrong);
     }
 
     /// What the text gave beside what the re-spaced text gave.
-    fn pair<T: PartialEq + std::fmt::Debug>(&mut self, side: &Side, about: &str, outcomes: [T; 2]) {
+    fn pair<T: PartialEq + Debug>(&mut self, side: &Side, about: &str, outcomes: [T; 2]) {
         let [first, second] = outcomes;
-        let wrong = (first != second).then(|| expected_and_found(&first, &second));
-        let name = || format!("`{}` and re-spaced, {about}", side.bytes.escape_ascii());
-        self.report.record_call(side.bytes.len(), name, wrong);
+        let name = || format!("{} and re-spaced, {about}", quoted(side.text()));
+        let wrong = differing(&first, &second);
+        self.report.record_call(side.text().len(), name, wrong);
     }
 
-    fn finish(self) -> ExitCode {
-        println!("{} accepted texts, {} strings", self.texts, self.strings);
-        println!("values in the text: {}", self.in_text);
-        println!("values in the output: {}", self.in_output);
-        println!("values refused:");
-        self.values
-            .print_refusals([31].into_iter().chain(40..=46).chain([50]));
+    fn finish(mut self, rooms: &[Room; 2]) -> Report {
+        let texts = self.report.inputs.count();
+        println!("{texts} accepted texts, {} strings", self.strings);
+        let numbers = [31].into_iter().chain(40..=46).chain([50]);
+        self.values.print(numbers);
         println!("parts handed back: {}; refused:", self.hands.accepted());
         self.hands.print_refusals([3, 40].into_iter());
-        self.report.finish()
+        self.report.calls = rooms.iter().map(|room| room.calls).sum();
+        self.report.ends = self.lexings;
+        self.report.ends.add_all(&self.hands);
+        self.report.ends.add_all(&self.values.refused);
+        self.report
     }
 }
 
 /// How many parts the string has, and how many bytes its value.
 fn needed(side: &Side, place: usize) -> (usize, usize) {
     let parts = parted(&side.listed, place, AMPLE).parts.len();
-    let mut output = vec![0; side.bytes.len()];
-    let value = valued(&side.bytes, &side.listed, place, AMPLE, &mut output, 0).value;
+    let mut output = vec![0; side.text().len()];
+    let value = valued(side.text(), &side.listed, place, AMPLE, &mut output, 0).value;
     let bytes = match value {
         Ok(Held::Text { start, end }) | Ok(Held::Output { start, end }) => end - start,
         Err(_) => 0,
@@ -428,15 +343,26 @@ fn needed(side: &Side, place: usize) -> (usize, usize) {
     (parts, bytes as usize)
 }
 
-fn main() -> ExitCode {
-    let arguments = arguments("compare [--self-test] values N SEED");
-    let mut comparison = Comparison::new(arguments.self_test, arguments.seed);
+pub fn run(arguments: &Arguments) -> Report {
+    let mut comparison = Comparison {
+        report: Report::new("values", arguments),
+        random: Random::new(!arguments.seed),
+        strings: 0,
+        lexings: Ends::new(),
+        values: Values::new(),
+        hands: Ends::new(),
+    };
     let mut supply = Supply::of_strings(arguments.seed);
-    let mut sides = [Side::new(), Side::new()];
-    for _ in 0..arguments.count {
+    let mut rooms = [Room::new(), Room::new()];
+    for number in 0..arguments.count + joined(arguments) {
         let doc = DocId(comparison.random.next() as u32);
-        let accepted = supply.next(doc);
-        comparison.compare(accepted, doc, &mut sides);
+        let subject = if number < arguments.count {
+            let Accepted { text, trace } = supply.next(doc);
+            Subject::traced(text, doc, trace)
+        } else {
+            Subject::new(supply.joined(), doc)
+        };
+        comparison.compare(subject, &mut rooms);
     }
-    comparison.finish()
+    comparison.finish(&rooms)
 }

@@ -1,19 +1,15 @@
 //! `rcl_walker_open` and `rcl_walker_step` beside the published lexer's own steps, walking
 //! texts from their opening; and beside document 01, on states made by hand.
 
-mod calls;
-
-use std::process::ExitCode;
-
-use calls::{rcl_walker_open, rcl_walker_step, Stepped, Walker};
-use judge::arguments::arguments;
-use judge::generate::accepted::Supply;
+use crate::calls::{Stepped, Walker};
+use crate::room::Room;
+use crate::subject::{texts, Subject};
+use judge::arguments::Arguments;
+use judge::generate::any_doc;
 use judge::generate::random::Random;
 use judge::generate::states::{State, States};
-use judge::lent::{LentList, LentText};
-use judge::reference::{trace, Trace};
-use judge::report::{expected_and_found, Ends, Report};
-use judge::source::DocId;
+use judge::refusal::Refusal;
+use judge::report::{quoted, Ends, Report};
 use judge::walker::{self, opened, walk, Given, Place, Stack, Walked};
 
 /// Each walk goes on for so many steps after the one that ended it.
@@ -22,75 +18,32 @@ const PAST_THE_END: usize = 3;
 /// So many states by hand for each text.
 const STATES: usize = 2;
 
-// What is lent.
+// The stack.
 
-/// The text and the stack, used again for each call.
-struct Room {
-    text: LentText,
-    stack: LentList,
+/// Lends a stack with a pattern in it, and answers what it holds.
+fn lend_pattern(room: &mut Room, random: &mut Random, places: usize) -> Stack {
+    room.stack.fill(random, places);
+    Stack {
+        kinds: room.stack.kinds.inside().to_vec(),
+        words: room.stack.words.inside().to_vec(),
+    }
 }
 
-impl Room {
-    fn new() -> Room {
-        Room {
-            text: LentText::new(),
-            stack: LentList::new("stack_kinds", "stack_words"),
-        }
-    }
+/// Lends a stack that holds this.
+fn lend_stack(room: &mut Room, random: &mut Random, stack: &Stack) {
+    let lent = &mut room.stack;
+    lent.kinds.fill(random.next(), stack.kinds.len());
+    lent.words.fill(random.next(), stack.words.len());
+    lent.kinds.inside().copy_from_slice(&stack.kinds);
+    lent.words.inside().copy_from_slice(&stack.words);
+}
 
-    /// Lends a stack with a pattern in it, and answers what it holds.
-    fn fill(&mut self, random: &mut Random, places: usize) -> Stack {
-        self.stack.fill(random, places);
-        Stack {
-            kinds: self.stack.kinds.inside().to_vec(),
-            words: self.stack.words.inside().to_vec(),
-        }
-    }
-
-    /// Lends a stack that holds this.
-    fn put(&mut self, random: &mut Random, stack: &Stack) {
-        self.stack.kinds.fill(random.next(), stack.kinds.len());
-        self.stack.words.fill(random.next(), stack.words.len());
-        self.stack.kinds.inside().copy_from_slice(&stack.kinds);
-        self.stack.words.inside().copy_from_slice(&stack.words);
-    }
-
-    fn open(&self, doc: DocId, len: usize) -> Walker {
-        // The pointer is that of a live array with at least this length.
-        unsafe { rcl_walker_open(doc.0, self.text.pointer(), len) }
-    }
-
-    fn step(&mut self, state: &State) -> Stepped {
-        // Each pointer is that of a live array with at least the length passed beside it,
-        // and no two overlap.
-        unsafe {
-            rcl_walker_step(
-                state.doc.0,
-                self.text.pointer(),
-                state.text.len(),
-                state.before.position,
-                state.before.depth,
-                state.kept,
-                state.kept_number,
-                state.kept_at.low,
-                state.kept_at.high,
-                self.stack.kinds.pointer(),
-                self.stack.kinds.len(),
-                self.stack.words.pointer(),
-                self.stack.words.len(),
-            )
-        }
-    }
-
-    /// What is wrong unless both arrays hold this whole, between their guards.
-    fn wrong_stack(&self, stack: &Stack) -> Option<String> {
-        let kinds = stack.kinds.iter().copied();
-        let words = || stack.words.iter().copied();
-        self.stack
-            .kinds
-            .wrong_after(kinds)
-            .or_else(|| self.stack.words.wrong_after(words()))
-    }
+/// What is wrong unless both arrays hold this whole, between their guards.
+fn wrong_stack(room: &Room, stack: &Stack) -> Option<String> {
+    let kinds = stack.kinds.iter().copied();
+    let words = stack.words.iter().copied();
+    let wrong = room.stack.kinds.wrong_after(kinds);
+    wrong.or_else(|| room.stack.words.wrong_after(words))
 }
 
 // The comparison.
@@ -99,34 +52,37 @@ impl Room {
 struct Answers {
     lexemes: u64,
     ended: u64,
-    refused: u64,
     /// Refusals given because they were kept.
-    kept: u64,
-    ends: Ends,
+    kept: Ends,
+    refused: Ends,
 }
 
 impl Answers {
+    fn new() -> Answers {
+        Answers {
+            lexemes: 0,
+            ended: 0,
+            kept: Ends::new(),
+            refused: Ends::new(),
+        }
+    }
+
     fn add(&mut self, state: &State, given: Given) {
         match given {
             Given::Lexeme(_) => self.lexemes += 1,
             Given::Ended => self.ended += 1,
-            Given::Refused(refusal) => {
-                self.refused += 1;
-                match state.kept {
-                    0 => self.ends.add_number(refusal.number),
-                    _ => self.kept += 1,
-                }
-            }
+            Given::Refused(refusal) if state.kept == 0 => self.refused.add_number(refusal.number),
+            Given::Refused(refusal) => self.kept.add_number(refusal.number),
         }
     }
 
     fn print(&self) {
         println!("lexemes: {}", self.lexemes);
         println!("ended: {}", self.ended);
-        println!("refused: {}", self.refused);
-        println!("kept refusals: {}", self.kept);
-        let numbers = (10..=28).chain([30, 40]);
-        self.ends.print_refusals(numbers);
+        println!("kept refusals given: {}", self.kept.all());
+        println!("others refused: {}", self.refused.all());
+        let numbers = [2].into_iter().chain(10..=28).chain([30, 40]);
+        self.refused.print_refusals(numbers);
     }
 }
 
@@ -134,75 +90,53 @@ struct Comparison {
     report: Report,
     random: Random,
     room: Room,
+    openings: Ends,
     answers: Answers,
-    texts: u64,
     walks: u64,
     states: u64,
 }
 
 impl Comparison {
-    fn new(self_test: bool, seed: u64) -> Comparison {
-        Comparison {
-            report: Report::new(self_test),
-            random: Random::new(!seed),
-            room: Room::new(),
-            answers: Answers {
-                lexemes: 0,
-                ended: 0,
-                refused: 0,
-                kept: 0,
-                ends: Ends::new(),
-            },
-            texts: 0,
-            walks: 0,
-            states: 0,
-        }
-    }
-
     /// One text: its opening, and walks with an ample stack, one that just suffices, and a
     /// smaller one.
-    fn compare_text(&mut self, text: &[u8]) {
-        self.texts += 1;
-        let doc = self.doc();
-        self.room.text.put(&mut self.random, text);
-        self.compare_opening(text, doc);
-        let trace = trace(text, doc);
-        let depths = trace.taken.iter().map(|taken| taken.depth_after);
+    fn compare_text(&mut self, text: Vec<u8>) {
+        self.report.inputs.add_text(&text);
+        let doc = any_doc(&mut self.random);
+        self.room.text.put(&mut self.random, &text);
+        let subject = Subject::new(text, doc);
+        self.compare_opening(&subject, opened(&subject.text, doc));
+        let depths = subject.trace.taken.iter().map(|taken| taken.depth_after);
         let deepest = depths.max().unwrap_or(0);
         let ample = deepest + self.random.between(1, 5);
-        self.compare_walk(text, doc, &trace, ample);
-        self.compare_walk(text, doc, &trace, deepest);
+        self.compare_walk(&subject, ample);
+        self.compare_walk(&subject, deepest);
         if deepest > 0 {
             let small = self.random.below(deepest);
-            self.compare_walk(text, doc, &trace, small);
+            self.compare_walk(&subject, small);
         }
-        let wrong = self.room.text.wrong(text);
-        self.report.record(text, wrong);
+        let wrong = self.room.text.wrong(&subject.text);
+        self.report.record(&subject.text, wrong);
     }
 
-    fn doc(&mut self) -> DocId {
-        match self.random.below(4) {
-            0 => DocId(0),
-            1 => DocId(u32::MAX),
-            _ => DocId(self.random.next() as u32),
-        }
-    }
-
-    fn compare_opening(&mut self, text: &[u8], doc: DocId) {
-        let expected = Walker::of(opened(text, doc));
-        let found = self.room.open(doc, text.len());
-        self.report.compare(text, expected, found);
+    fn compare_opening(&mut self, subject: &Subject, kept: Option<Refusal>) {
+        let expected = Walker::of(kept);
+        self.openings.add_number(expected.number as u8);
+        let found = self.room.open(subject.doc);
+        self.report.compare(&subject.text, expected, found);
     }
 
     /// A walk with so many places. It stops at the first step that differs.
-    fn compare_walk(&mut self, text: &[u8], doc: DocId, trace: &Trace, places: usize) {
+    fn compare_walk(&mut self, subject: &Subject, places: usize) {
         self.walks += 1;
+        let Subject {
+            text, doc, trace, ..
+        } = subject;
         let answers = walk(trace, places);
         let last = answers.len() - 1;
-        let walked = Walked::new(text, doc);
-        let stack = self.room.fill(&mut self.random, places);
+        let walked = Walked::new(text, *doc);
+        let stack = lend_pattern(&mut self.room, &mut self.random, places);
         let start = Place::default();
-        let mut state = State::walking(text, doc, opened(text, doc), start, stack);
+        let mut state = State::walking(text, *doc, opened(text, *doc), start, stack);
         for number in 0..=last + PAST_THE_END {
             let published = answers[number.min(last)];
             let before = state.before;
@@ -215,36 +149,66 @@ impl Comparison {
         }
     }
 
+    fn compare_states(&mut self, states: &mut States) {
+        for _ in 0..STATES {
+            self.compare_state(&mut states.next_state());
+        }
+    }
+
     fn compare_state(&mut self, state: &mut State) {
         self.states += 1;
         self.room.text.put(&mut self.random, &state.text);
-        self.room.put(&mut self.random, &state.stack);
+        lend_stack(&mut self.room, &mut self.random, &state.stack);
         let answer = answer_by_hand(state);
         self.compare_step(state, &answer);
         let wrong = self.room.text.wrong(&state.text);
         self.report.record(&state.text, wrong);
     }
 
+    /// Openings with a length over the limit, and steps from any state with it.
+    fn compare_too_long(&mut self, states: &mut States) {
+        for subject in Subject::too_long(&mut self.random) {
+            subject.lend(&mut self.random, &mut self.room);
+            self.compare_opening(&subject, subject.trace.refusal);
+            let state = State {
+                text: subject.text,
+                doc: subject.doc,
+                kept: 0,
+                ..states.next_state()
+            };
+            lend_stack(&mut self.room, &mut self.random, &state.stack);
+            let answer = walker::too_long(state.doc, state.before);
+            self.compare_step(&state, &answer);
+        }
+    }
+
     /// One call, with the text and the stack before it in the room. The state's stack is
     /// that after the step. Whether all was right.
     fn compare_step(&mut self, state: &State, answer: &walker::Stepped) -> bool {
         self.answers.add(state, answer.given);
-        let mut expected = Stepped::of(answer);
-        self.report.prepare(&mut expected);
         let found = self.room.step(state);
-        let wrong = (found != expected).then(|| expected_and_found(&expected, &found));
-        let wrong = wrong.or_else(|| self.room.wrong_stack(&state.stack));
-        let right = wrong.is_none();
-        let name = || named(state);
-        self.report.record_call(state.text.len(), name, wrong);
-        right
+        let differences = self.report.differences;
+        self.report.call(
+            state.text.len(),
+            || named(state),
+            Stepped::of(answer),
+            found,
+            || wrong_stack(&self.room, &state.stack),
+        );
+        self.report.differences == differences
     }
 
-    fn finish(self) -> ExitCode {
-        println!("{} texts, {} walks", self.texts, self.walks);
+    fn finish(mut self) -> Report {
+        let texts = self.report.inputs.count();
+        println!("{texts} texts, {} walks", self.walks);
         println!("{} states by hand", self.states);
         self.answers.print();
-        self.report.finish()
+        self.report.calls = self.room.calls;
+        self.report.ends = self.openings;
+        self.report.ends.add_all(&self.answers.refused);
+        // By hand any number is kept, but an opening keeps these.
+        self.report.ends.add_some(&self.answers.kept, 1..=2);
+        self.report
     }
 }
 
@@ -264,32 +228,27 @@ fn answer_by_hand(state: &mut State) -> walker::Stepped {
 }
 
 fn named(state: &State) -> String {
-    let State {
-        text,
-        doc,
-        before,
-        kept,
-        kept_number,
-        kept_at,
-        stack,
-    } = state;
-    format!(
-        "`{}`, id {}, {before:?}, kept {kept} {kept_number} {kept_at:?}, after it {stack:?}",
-        text.escape_ascii(),
-        doc.0
-    )
+    let (id, at) = (state.doc.0, state.before);
+    let kept = (state.kept, state.kept_number, state.kept_at);
+    let (text, stack) = (quoted(&state.text), &state.stack);
+    format!("{text}, id {id}, {at:?}, kept {kept:?}, after it {stack:?}")
 }
 
-fn main() -> ExitCode {
-    let arguments = arguments("compare [--self-test] walker N SEED");
-    let mut comparison = Comparison::new(arguments.self_test, arguments.seed);
-    let mut supply = Supply::new(arguments.seed);
+pub fn run(arguments: &Arguments) -> Report {
+    let mut comparison = Comparison {
+        report: Report::new("walker", arguments),
+        random: Random::new(!arguments.seed),
+        room: Room::new(),
+        openings: Ends::new(),
+        answers: Answers::new(),
+        walks: 0,
+        states: 0,
+    };
     let mut states = States::new(arguments.seed);
-    for _ in 0..arguments.count {
-        comparison.compare_text(&supply.any_text());
-        for _ in 0..STATES {
-            comparison.compare_state(&mut states.next_state());
-        }
+    for text in texts(arguments) {
+        comparison.compare_text(text);
+        comparison.compare_states(&mut states);
     }
+    comparison.compare_too_long(&mut states);
     comparison.finish()
 }

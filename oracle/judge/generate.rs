@@ -16,10 +16,21 @@ pub mod rfc8259;
 pub mod spaced;
 pub mod states;
 pub mod strings;
+pub mod tallies;
 pub mod utf8;
 
+use crate::source::DocId;
 use exhaustive::Exhaustive;
 use random::Random;
+
+/// Any id, often the least or the greatest.
+pub fn any_doc(random: &mut Random) -> DocId {
+    match random.below(4) {
+        0 => DocId(0),
+        1 => DocId(u32::MAX),
+        _ => DocId(random.next() as u32),
+    }
+}
 
 /// An endless supply of texts: the fixed ones first, then in turn the next of
 /// all short texts, a random one over the same bytes, one that resembles RCL,

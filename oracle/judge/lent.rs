@@ -32,12 +32,15 @@ pub struct Lent<T> {
 }
 
 impl<T: Cell> Lent<T> {
+    /// An array of no cell.
     pub fn new(name: &'static str) -> Lent<T> {
-        Lent {
+        let mut lent = Lent {
             name,
             salt: 0,
             cells: Vec::new(),
-        }
+        };
+        lent.fill(0, 0);
+        lent
     }
 
     pub fn fill(&mut self, salt: u64, len: usize) {
@@ -168,6 +171,8 @@ pub struct LentText {
     bytes: Vec<u8>,
     shift: usize,
     beyond: u8,
+    /// The length that a call is told.
+    len: usize,
 }
 
 /// Bytes that would change the last lexeme if they were read.
@@ -179,6 +184,7 @@ impl LentText {
             bytes: Vec::new(),
             shift: 0,
             beyond: 0,
+            len: 0,
         }
     }
 
@@ -189,6 +195,16 @@ impl LentText {
         self.bytes.resize(self.shift, self.beyond);
         self.bytes.extend_from_slice(text);
         self.bytes.extend([self.beyond; 32]);
+        self.len = text.len();
+    }
+
+    /// Tells a call another length than the text's: one that it has to refuse unread.
+    pub fn claim(&mut self, len: usize) {
+        self.len = len;
+    }
+
+    pub fn len(&self) -> usize {
+        self.len
     }
 
     pub fn pointer(&self) -> *const u8 {

@@ -13,12 +13,14 @@ pub mod string;
 pub mod arguments;
 pub mod codes;
 pub mod generate;
+pub mod inputs;
 pub mod lent;
 pub mod reference;
 pub mod refusal;
 pub mod report;
 pub mod respace;
 pub mod strings;
+pub mod tally;
 pub mod walker;
 
 #[cfg(test)]

@@ -11,6 +11,7 @@ use crate::strings::case::Case;
 use crate::strings::hand::{handed, handed_or_empty};
 use crate::strings::value::Held;
 use crate::strings::{Refused, Words, LONGEST, NOWHERE};
+use crate::tally::Tally;
 use crate::walker::{opened, walk, Given, Place, Stack, Stepped, Walked};
 
 const DOC: DocId = DocId(7);
@@ -176,6 +177,29 @@ fn handing_back() {
     let outside = Refused::new(40, Words::new(0, 1, 3));
     assert_eq!(check(output(1, 3)), Err(outside));
     assert_eq!(handed_or_empty(b"abc", b"xy", output(1, 3)), b"");
+}
+
+#[test]
+fn tallies() {
+    let tally = |accepted, refused, steps| Tally {
+        accepted,
+        refused,
+        steps,
+    };
+    let after = |before: Tally, text| before.after(&lexed(text));
+    let carried = after(
+        after(Tally::default(), b"a = f\"{b-1}\";"),
+        b"f\"{a // b}\"",
+    );
+    assert_eq!(carried, tally(1, 1, 15));
+    let last = u64::MAX;
+    let near = tally(last - 1, last - 1, last - 3);
+    assert_eq!(after(near, b"a b"), tally(last, last - 1, last));
+    assert_eq!(after(near, b"a b)"), tally(last - 1, last, last));
+    assert_eq!(after(near, b"a b c"), tally(last, last - 1, last));
+    let full = tally(last, last, last);
+    assert_eq!(after(full, b"a"), full);
+    assert_eq!(after(full, b")"), full);
 }
 
 // The walker.

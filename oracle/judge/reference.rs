@@ -72,6 +72,14 @@ pub fn trace(text: &[u8], doc: DocId) -> Trace {
     }
 }
 
+/// The same of any text over the limit: refusal 2.
+pub fn too_long(doc: DocId) -> Trace {
+    Trace {
+        taken: Vec::new(),
+        refusal: Some(Refusal::at_start(2, doc)),
+    }
+}
+
 /// Refusals 2 and 1.
 pub fn checked(text: &[u8], doc: DocId) -> Result<&str, Refusal> {
     if text.len() > LONGEST {

@@ -1,12 +1,16 @@
-//! What every comparison prints: the differences, the first few in full.
+//! What every comparison counts and prints: the differences, the first few in full.
 
 use std::fmt::Debug;
-use std::process::ExitCode;
 
+use crate::arguments::Arguments;
+use crate::inputs::Inputs;
 use crate::reference::Answer;
 
 /// More than this many differences say no more.
 const SHOWN: u64 = 10;
+
+/// A longer text is not shown whole.
+const LONGEST_SHOWN: usize = 10_000;
 
 /// An expected answer that can be made wrong, to see the difference reported.
 pub trait Damage {
@@ -26,8 +30,13 @@ impl Damage for Answer {
 }
 
 pub struct Report {
-    compared: u64,
-    differences: u64,
+    pub inputs: Inputs,
+    /// How many calls of the library were made.
+    pub calls: u64,
+    pub compared: u64,
+    pub differences: u64,
+    /// How the calls ended whose refusals have a number.
+    pub ends: Ends,
     /// The shortest text or call that differed, with its size: the one to look at first.
     smallest: Option<(usize, String)>,
     /// One expected answer is still to be made wrong.
@@ -35,24 +44,35 @@ pub struct Report {
 }
 
 impl Report {
-    pub fn new(self_test: bool) -> Report {
+    pub fn new(name: &'static str, arguments: &Arguments) -> Report {
         Report {
+            inputs: Inputs::new(name, arguments.count),
+            calls: 0,
             compared: 0,
             differences: 0,
+            ends: Ends::new(),
             smallest: None,
-            damage_due: self_test,
+            damage_due: arguments.self_test,
         }
     }
 
-    pub fn compare<T: Damage + Debug + PartialEq>(
+    pub fn compare<T: Damage + Debug + PartialEq>(&mut self, text: &[u8], expected: T, found: T) {
+        self.call(text.len(), || quoted(text), expected, found, || None);
+    }
+
+    /// Counts one call: what it answered beside what it had to; where that is right, `left`
+    /// says what it left in an array that it should not have.
+    pub fn call<T: Damage + Debug + PartialEq>(
         &mut self,
-        text: &[u8],
+        size: usize,
+        name: impl Fn() -> String,
         mut expected: T,
         found: T,
+        left: impl FnOnce() -> Option<String>,
     ) {
         self.prepare(&mut expected);
-        let wrong = (expected != found).then(|| expected_and_found(&expected, &found));
-        self.record(text, wrong);
+        let wrong = differing(&expected, &found).or_else(left);
+        self.record_call(size, name, wrong);
     }
 
     /// Makes the first expected answer of a self-test wrong. For a comparison
@@ -66,7 +86,7 @@ impl Report {
 
     /// Counts one comparison; `wrong` says what differed, if anything did.
     pub fn record(&mut self, text: &[u8], wrong: Option<String>) {
-        self.record_call(text.len(), || format!("`{}`", text.escape_ascii()), wrong);
+        self.record_call(text.len(), || quoted(text), wrong);
     }
 
     /// The same for a call that is more than a text: its size, and how it is named.
@@ -87,30 +107,37 @@ impl Report {
         }
     }
 
-    /// The last lines, and the exit status: 1 where anything differed.
-    pub fn finish(self) -> ExitCode {
+    /// The last lines.
+    pub fn print(&self) {
         if let Some((_, name)) = &self.smallest {
             println!("shortest that differs: {name}");
         }
         println!("{} compared", self.compared);
         println!("{} differences", self.differences);
-        ExitCode::from((self.differences > 0) as u8)
+    }
+}
+
+/// A text as messages show it: of a long one the beginning.
+pub fn quoted(text: &[u8]) -> String {
+    match text.len() {
+        0..=LONGEST_SHOWN => format!("`{}`", text.escape_ascii()),
+        len => format!("`{}`.. of {len} bytes", text[..100].escape_ascii()),
     }
 }
 
 /// What differed, for `Report::record`.
-pub fn expected_and_found(expected: &dyn Debug, found: &dyn Debug) -> String {
-    format!("  expected {expected:?}\n  found    {found:?}")
+pub fn differing<T: Debug + PartialEq>(expected: &T, found: &T) -> Option<String> {
+    (expected != found).then(|| format!("  expected {expected:?}\n  found    {found:?}"))
 }
 
 /// How many calls ended with each refusal; place 0 holds the accepted ones.
 pub struct Ends {
-    counts: [u64; 64],
+    counts: [u64; 256],
 }
 
 impl Ends {
     pub fn new() -> Ends {
-        Ends { counts: [0; 64] }
+        Ends { counts: [0; 256] }
     }
 
     pub fn add(&mut self, answer: &Answer) {
@@ -122,20 +149,40 @@ impl Ends {
         self.counts[number as usize] += 1;
     }
 
-    /// Each refusal that lexing can give, also where it was never reached.
-    pub fn print(&self) {
-        println!("accepted: {}", self.counts[0]);
-        self.print_refusals(std::iter::once(1).chain(10..=28).chain(30..=31));
+    pub fn add_all(&mut self, others: &Ends) {
+        self.add_some(others, 0..=u8::MAX);
+    }
+
+    /// The others with these numbers.
+    pub fn add_some(&mut self, others: &Ends, numbers: impl Iterator<Item = u8>) {
+        for number in numbers {
+            self.counts[number as usize] += others.counts[number as usize];
+        }
+    }
+
+    /// How many lexing calls were accepted, and each refusal that lexing can give, also
+    /// where it was never reached.
+    pub fn print_lexing(&self) {
+        println!("accepted: {}", self.accepted());
+        self.print_refusals([1, 2].into_iter().chain(10..=28).chain(30..=31));
     }
 
     /// The same for calls that can give these refusals.
-    pub fn print_refusals(&self, numbers: impl Iterator<Item = usize>) {
+    pub fn print_refusals(&self, numbers: impl Iterator<Item = u8>) {
         for number in numbers {
-            println!("refusal {number}: {}", self.counts[number]);
+            println!("refusal {number}: {}", self.refused(number));
         }
+    }
+
+    pub fn all(&self) -> u64 {
+        self.counts.iter().sum()
     }
 
     pub fn accepted(&self) -> u64 {
         self.counts[0]
+    }
+
+    pub fn refused(&self, number: u8) -> u64 {
+        self.counts[number as usize]
     }
 }

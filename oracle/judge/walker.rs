@@ -37,6 +37,14 @@ pub fn opened(text: &[u8], doc: DocId) -> Option<Refusal> {
     checked(text, doc).err()
 }
 
+/// A step in a text over the limit, with nothing kept: refusal 2.
+pub fn too_long(doc: DocId, before: Place) -> Stepped {
+    Stepped {
+        given: Given::Refused(Refusal::at_start(2, doc)),
+        after: before,
+    }
+}
+
 // The stack.
 
 /// The two arrays of a stack of openers, with anything in them.

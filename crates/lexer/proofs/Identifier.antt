@@ -1,20 +1,22 @@
--- Laws of identifiers and keywords, as the code meets them: a byte by its class, the dashes at an end, the keywords by their length.
+-- Laws of identifiers and keywords, as the code meets them: a byte by its class, the dashes at an end, the keywords by their length, and the step.
 use Prim.Native.Nat.{ℕ, suc, _+_, _-_, _≤_, _<_}
 use Prim.Native.Char.{code}
 use mathlib.Core.Path.{_≡_, refl, _∙_}
 use mathlib.Core.List.{List, [], _∷_}
 use mathlib.Core.Bool.{Bool, true, false, cond, _&&_, _||_, Bool·beq, and-true, and-false, and-assoc, false≢true}
+use native.Mathlib.Nat.{add-sub-cancel-left}
 use native.Mathlib.Omega.{arith}
-use borrow.Author.Tests.{ne-eqb}
-use lib.Dec.{eqb}
+use borrow.Author.Tests.{ltb-true, le-ltb, ne-eqb}
+use lib.Dec.{eqb, ltb}
 use lib.ListN.{length, take, drop, getD, length-drop}
 use lib.Seq.{getD-drop, length-take-le}
-use Rattle.rules.specs.Text.{is}
+use Rattle.rules.specs.Text.{is, run}
 use Rattle.rules.specs.Bytes.{isWhitespace, isControl, isDigit, isLetter, isPunctuation, isIdentifierByte, classOf, Digit, Letter}
 use Rattle.rules.specs.Kinds.{Ident, KwAnd, KwAssert, KwFalse, KwFor, KwElse, KwIf, KwImport, KwIn, KwLet, KwNot, KwNull, KwOr, KwTrace, KwTrue}
-use Rattle.rules.specs.Step.{giveBack, keywordOrIdent}
+use Rattle.rules.specs.Step.{giveBack, keywordOrIdent, identifierLength, identifier}
 use Rattle.rules.proofs.Every.{below}
 use Rattle.rules.proofs.Runs.{bytesFrom, take-bytes}
+use Rattle.lexer.specs.Outcome.{lexemeTo, outcome}
 use Rattle.lexer.specs.Words.{word2, word3, word4, word5, word6, Within}
 
 -- A byte, by its class: one computed test over all of them
@@ -120,3 +122,13 @@ module _ {at end : ℕ} {t : List ℕ} (w : Within at end t) where
   -- a part of a length that no keyword has is none
   pub part-none : (2 ≤ end - at → 7 ≤ end - at) → keywordOrIdent (take (end - at) (drop at t)) ≡ Ident
   part-none h = words-none _ (rw (length-take-le (end - at) (drop at t) (omega (arith, length-drop at t))) h)
+
+-- the code's test for such a length
+pub other-length : (n : ℕ) → ltb n 2 || ltb 6 n ≡ true → 2 ≤ n → 7 ≤ n
+other-length n e h = ltb-true 6 n (rw (le-ltb n 2 h) at e)
+
+-- The outcome by position: identifier bytes up to `last`, and `end` where the dashes before it are given back
+pub identifier-at : (t : List ℕ) (at last end : ℕ) → last ≡ at + run isIdentifierByte (drop at t) → end ≡ at + giveBack (drop at t) (last - at) →
+    outcome at (identifier (drop at t)) ≡ lexemeTo (keywordOrIdent (take (end - at) (drop at t))) end
+unfolding identifier identifierLength
+identifier-at t at last end p q = rw (q, p) (simp add-sub-cancel-left)

@@ -10,3 +10,4 @@ pub mod Opening
 pub mod Parts
 pub mod Standing
 pub mod Loop
+pub mod Running

@@ -19,7 +19,7 @@ use Rattle.rules.proofs.Bounds.{found-inside, stop-inside, stop-number}
 use Rattle.rules.proofs.Rfc3629.{first-bad}
 use Rattle.rules.proofs.Text.{decide}
 use Rattle.rules.proofs.Trace.{trace-long, trace-bad, within-ends}
-use Rattle.token.specs.Codes.{codeOf, stateMeant, ifOpener}
+use Rattle.token.specs.Codes.{stateMeant, ifOpener}
 use Rattle.token.specs.declared.Opened.{Opened}
 use Rattle.token.specs.declared.Opened.the-variants.{State as OpenedState, NoOpener}
 use Rattle.lexer.specs.declared.Cursor.{Cursor}
@@ -31,22 +31,22 @@ use Rattle.lexer.specs.declared.Step.the-variants.{Found, Refused}
 use Rattle.lexer.specs.Cursor.{start, advanceOf, fullOf}
 use Rattle.lexer.specs.Memory.{topOf}
 use Rattle.lexer.specs.Outcome.{lexemeTo, refusedAt, outcome, stepMeant, innermostOf}
-use Rattle.lexer.specs.Results.{lexedMeant, countedAt, noteAt, refusedWith, verdictAt, faultOf, CanWrite, Wrote, CanAdvance, CanStop, CanFinish}
-use Rattle.lexer.proofs.Standing.{Standing, opened, codes, bounds, list-kinds, list-words, room-list, room-stack, standing-on, top-code, top-none, top-opener, note-some, note-none, note-other, answer, listed, standing-end, standing-stop, standing-full}
+use Rattle.lexer.specs.Results.{lexedMeant, countedAt, noteAt, refusedWith, verdictAt, faultOf, CanReport, CanStop, CanFinish}
+use Rattle.lexer.proofs.Standing.{Standing, opened, codes, kindsAfter, wordsAfter, stackKindsAfter, stackWordsAfter, bounds, standing-on, top-code, top-none, top-opener, note-some, note-none, note-other, answer, listed, standing-end, standing-stop, standing-full}
 
 -- what an outcome says of the step
-outcome-found : (at k e : ℕ) (r : StepRule) → lexemeTo k e ≡ outcome at r → (n : ℕ) × (r ≡ found k n) × (e ≡ at + n)
+pub outcome-found : (at k e : ℕ) (r : StepRule) → lexemeTo k e ≡ outcome at r → (n : ℕ) × (r ≡ found k n) × (e ≡ at + n)
 outcome-found at k e (found j n) q = (n, cc, cc)
 outcome-found at k e (stop a b m) q = let z : _≡_ {A = ℕ} 0 1 = cc in absurd (omega arith)
 
-record Stop (at : ℕ) (r : StepRule) (number start end : ℕ) : Type 0 where
-  from : ℕ
-  size : ℕ
-  is : r ≡ stop number from size
-  starts : start ≡ at + from
-  ends : end ≡ at + from + size
+pub record Stop (at : ℕ) (r : StepRule) (number start end : ℕ) : Type 0 where
+  pub from : ℕ
+  pub size : ℕ
+  pub is : r ≡ stop number from size
+  pub starts : start ≡ at + from
+  pub ends : end ≡ at + from + size
 
-outcome-stop : (at a b e : ℕ) (r : StepRule) → refusedAt a b e ≡ outcome at r → Stop at r a b e
+pub outcome-stop : (at a b e : ℕ) (r : StepRule) → refusedAt a b e ≡ outcome at r → Stop at r a b e
 outcome-stop at a b e (found j n) q = let z : _≡_ {A = ℕ} 0 1 = cc in absurd (omega arith)
 outcome-stop at a b e (stop x f m) q = record { from = f; size = m; is = cc; starts = cc; ends = cc }
 
@@ -55,11 +55,11 @@ pub fault-means : (answer : Step) (f g : Fault) (at : ℕ) → answer ≡ Refuse
 unfolding faultOf
 fault-means answer f g at a e = rw (e, a)
 
-pub found-means : (answer : Step) (l : LexemeFound) → answer ≡ Found l → lexemeTo (codeOf (l .token)) (l .end) ≡ stepMeant answer
+pub found-means : (answer : Step) (l : LexemeFound) → answer ≡ Found l → lexemeTo (l .kind) (l .end) ≡ stepMeant answer
 found-means answer l a = rw a
 
 -- what the innermost opener's state says of its code
-no-state : (top : Opened) → stateMeant top ≡ none → innermostOf top ≡ Nothing
+pub no-state : (top : Opened) → stateMeant top ≡ none → innermostOf top ≡ Nothing
 unfolding stateMeant
 no-state (OpenedState s) e = let z : _≡_ {A = ℕ} 0 1 = cc in absurd (omega arith)
 no-state NoOpener e = refl
@@ -111,6 +111,13 @@ full-unnoted stack places c k number e = rw e (pick (isOpener k && leb stack (c 
     pick false true = refl
     pick false false = refl
 
+-- the arrays after a lexeme: the list has it unless it is a Space, the stack if it opens
+pub record Wrote (doc : ℕ) (c : Cursor) (kind end : ℕ) (ks ws sk sw ks′ ws′ sk′ sw′ : List ℕ) : Type 0 where
+  pub kinds : ks′ ≡ kindsAfter c kind ks
+  pub words : ws′ ≡ wordsAfter c kind (low (span doc (c .at) end)) (high (span doc (c .at) end)) ws
+  pub stackKinds : sk′ ≡ stackKindsAfter c kind sk
+  pub stackWords : sw′ ≡ stackWordsAfter c kind (low (span doc (c .at) end)) (high (span doc (c .at) end)) sw
+
 module _ {doc : ℕ} {text ks₀ ws₀ sk₀ sw₀ ks ws sk sw : List ℕ} {c : Cursor} (s : Standing doc text ks₀ ws₀ sk₀ sw₀ ks ws sk sw c) where
   -- the state that the stack gives is the innermost opener's
   pub top-innermost : (top : Opened) → topOf (c .depth) sk top → innermostOf top ≡ innermost (codes doc (s .past))
@@ -144,17 +151,20 @@ module _ {doc : ℕ} {text ks₀ ws₀ sk₀ sw₀ ks ws sk sw : List ℕ} {c : 
       (λ d. rw (y, d) (sym (note-none s number (omega (arith, ltb-false 0 (c .depth) d))))))
       (λ y. rw y (sym (note-other s number (e ∙ y))))
 
-  -- the places that the code counted are the arrays'
-  pub full-here : {stack places number : ℕ} (k : ℕ) → stack ≡ placesOf sk₀ sw₀ → places ≡ placesOf ks₀ ws₀ → number ≡ fullOf stack places c k →
-      number ≡ fullOf (placesOf sk₀ sw₀) (placesOf ks₀ ws₀) c k
-  full-here k a b e = rw (← a, ← b) e
+  pub can-report : CanReport c
+  can-report = record { steps = (bounds s) .steps; dropped = (bounds s) .dropped }
 
   -- the openers that are open lie in the stack's arrays
   pub can-finish : CanFinish c sk sw
-  can-finish = record { at = omega (arith, s .inside, s .small); stackKinds = omega (arith, s .shallow, s .stackKindsLength); stackWords = omega (arith, s .shallow, s .stackWordsLength) }
+  can-finish = record {
+    at = omega (arith, s .inside, s .small);
+    stackKinds = omega (arith, s .shallow, s .stackKindsLength);
+    stackWords = omega (arith, s .shallow, s .stackWordsLength);
+    counts = can-report;
+  }
 
   pub can-stop : (f : Fault) → (f .start < 2 ^ 48) × (f .end < 2 ^ 48) → CanStop f c sw
-  can-stop f b = record { start = b .0; end = b .1; stack = can-finish .stackWords }
+  can-stop f b = record { start = b .0; end = b .1; stack = can-finish .stackWords; counts = can-report }
 
   -- the text has ended
   pub end-out : (r : Lexed) → length text ≤ c .at → lexedMeant r ≡ verdictAt doc c sk sw → Lexes doc text ks₀ ws₀ sk₀ sw₀ (lexedMeant r) ks ws sk sw
@@ -219,10 +229,6 @@ module _ {doc : ℕ} {text ks₀ ws₀ sk₀ sw₀ ks ws sk sw : List ℕ} {c : 
         let l : length (drop (c .at) text) ≡ length text - c .at = length-drop (c .at) text in
         record { size = x .0; is = x .1; moves = i .0; fits = omega arith; ends = x .2 }
 
-    pub took-found : (top : Opened) (answer : Step) (l : LexemeFound) (k : ℕ) → topOf (c .depth) sk top → answer ≡ Found l → k ≡ codeOf (l .token) →
-        stepMeant answer ≡ outcome (c .at) (step (innermostOf top) (drop (c .at) text)) → Took k (l .end)
-    took-found top answer l k t a q o = rw q (took top (codeOf (l .token)) (l .end) t (found-means answer l a ∙ o))
-
     pub took-small : {k e : ℕ} → Took k e → (c .at < 2 ^ 48) × (e < 2 ^ 48)
     took-small t = (omega (arith, s .small), omega (arith, s .small, t .ends, t .fits))
 
@@ -238,40 +244,13 @@ module _ {doc : ℕ} {text ks₀ ws₀ sk₀ sw₀ ks ws sk sw : List ℕ} {c : 
             countedAt (verdictOf doc (c .at) (opened doc (s .past)) (stopped number 0 (t .size))) c
         same q = unfold verdictOf in rw (q, t .ends) (simp add-zero)
 
-    -- the loop's parts may be called, and the loop goes on
-    module _ {k e : ℕ} (t : Took k e) where
-      pub can-write : (opener : Bool) → opener ≡ isOpener k → fullOf (placesOf sk₀ sw₀) (placesOf ks₀ ws₀) c k ≡ 0 → CanWrite c k opener e ks ws sk sw
-      can-write opener o f = record {
-        opens = o;
-        before = omega (arith, s .small);
-        small = omega (arith, s .small, t .ends, t .fits);
-        kinds = λ b. omega (arith, list-kinds s, room-list s h k (t .size) (t .moves) (t .fits) (t .is) f b);
-        words = λ b. omega (arith, list-words s, room-list s h k (t .size) (t .moves) (t .fits) (t .is) f b);
-        stackKinds = λ b. omega (arith, s .stackKindsLength, room-stack s h k (t .size) (t .moves) (t .fits) (t .is) f b);
-        stackWords = λ b. omega (arith, s .stackWordsLength, room-stack s h k (t .size) (t .moves) (t .fits) (t .is) f b);
-      }
-
-      pub can-advance : (opener : Bool) → opener ≡ isOpener k → CanAdvance c k opener e
-      can-advance opener o = record {
-        opens = o;
-        forward = omega (arith, t .ends);
-        small = omega (arith, s .small, t .ends, t .fits);
-        steps = (bounds s) .steps;
-        lexemes = (bounds s) .lexemes;
-        bytes = (bounds s) .bytes;
-        depth = (bounds s) .depth;
-      }
-
-      pub less : length text - advanceOf c k e .at < length text - c .at
-      unfolding advanceOf
-      less = decide (isSpace k) (λ b. rw b (omega (arith, t .ends, t .moves, t .fits))) (λ b. rw b (omega (arith, t .ends, t .moves, t .fits)))
-
-      pub goes-on : {ks′ ws′ sk′ sw′ : List ℕ} → fullOf (placesOf sk₀ sw₀) (placesOf ks₀ ws₀) c k ≡ 0 → Wrote doc c k e ks ws sk sw ks′ ws′ sk′ sw′ →
-          Standing doc text ks₀ ws₀ sk₀ sw₀ ks′ ws′ sk′ sw′ (advanceOf c k e)
-      goes-on f w =
-          let q : e ≡ c .at + t .size = t .ends in
-          rw (w .kinds, w .words, w .stackKinds, w .stackWords, q)
-          (standing-on s h k (t .size) (t .moves) (t .fits) (t .is) (low (span doc (c .at) (c .at + t .size))) (high (span doc (c .at) (c .at + t .size))) f refl refl)
+    -- the loop goes on
+    pub goes-on : {k e : ℕ} {ks′ ws′ sk′ sw′ : List ℕ} → Took k e → fullOf (placesOf sk₀ sw₀) (placesOf ks₀ ws₀) c k ≡ 0 → Wrote doc c k e ks ws sk sw ks′ ws′ sk′ sw′ →
+        Standing doc text ks₀ ws₀ sk₀ sw₀ ks′ ws′ sk′ sw′ (advanceOf c k e)
+    goes-on {k} {e} t f w =
+        let q : e ≡ c .at + t .size = t .ends in
+        rw (w .kinds, w .words, w .stackKinds, w .stackWords, q)
+        (standing-on s h k (t .size) (t .moves) (t .fits) (t .is) (low (span doc (c .at) (c .at + t .size))) (high (span doc (c .at) (c .at + t .size))) f refl refl)
 
 -- a refusal before the first step leaves everything as it was
 at-once : (doc : ℕ) (text ks ws sk sw : List ℕ) (number at : ℕ) (r : Lexed) → traceIn (placesOf ks ws) (placesOf sk sw) text ≡ ends (stopped number at 0) →
@@ -308,4 +287,4 @@ bad-inside text bad e = (first-bad text bad .0 e) .inside
 
 -- a refusal before the first step may be reported
 pub can-stop-first : (text : List ℕ) {bad number : ℕ} {sw : List ℕ} → bad < length text → length text ≤ limit → CanStop (record { end = bad; number = number; start = bad }) start sw
-can-stop-first text b h = record { start = omega arith; end = omega arith; stack = omega arith }
+can-stop-first text b h = record { start = omega arith; end = omega arith; stack = omega arith; counts = record { steps = omega arith; dropped = omega arith } }

@@ -1,15 +1,16 @@
--- Laws of the loop's parts: the two words of a packed span, the refusal of an opener that is no quote's and no hole's, and when a refusal has a note.
-use Prim.Native.Nat.{ℕ, _%_, _^_, _<_}
+-- Laws of the loop's parts: the two words of a packed span, when a refusal has a note, and when the stack or the list is full.
+use Prim.Native.Nat.{ℕ, _%_, _^_, _<_, _≤_, max}
 use native.Mathlib.Omega.{arith}
 use mathlib.Core.Path.{_≡_, refl, sym, _∙_, ap}
-use mathlib.Core.Bool.{Bool, true, false, _&&_, false≢true}
+use mathlib.Core.Bool.{Bool, true, false, cond, _&&_, false≢true}
 use lib.Dec.{leb, ltb, eqb}
-use borrow.Author.Tests.{ltb-true, leb-true, lt-leb, ne-eqb}
-use Rattle.rules.specs.Kinds.{isQuoteOpen}
-use Rattle.rules.specs.Refusals.{AnotherDue, UnclosedBracket}
-use Rattle.rules.specs.Lexing.{unclosed}
+use borrow.Author.Tests.{ltb-true, lt-leb, le-leb, eqb-true}
+use Rattle.rules.specs.Kinds.{isSpace, isOpener, isCloser}
+use Rattle.rules.specs.Refusals.{AnotherDue, StackFull, ListFull}
 use Rattle.rules.specs.Spans.{span, spanOf, low, high}
 use Rattle.rules.proofs.Text.{decide}
+use Rattle.lexer.specs.declared.Cursor.{Cursor}
+use Rattle.lexer.specs.Cursor.{fullOf}
 use Rattle.rules.proofs.Spans.{same-span, low-of-span, high-of-span}
 
 -- words that name the low 48 bits of two offsets within the limit name the offsets' span
@@ -22,18 +23,42 @@ packed-words doc a e l h p q word same =
     let named : spanOf l h ≡ span doc a e = packed doc a e l h p q same in
     (sym (low-of-span l h word) ∙ ap low named, sym (high-of-span l h word) ∙ ap high named)
 
-no-quote : (k : ℕ) → (k ≡ 5 → ⊥) → (k ≡ 6 → ⊥) → (k ≡ 7 → ⊥) → (k ≡ 8 → ⊥) → isQuoteOpen k ≡ false
-no-quote k n₅ n₆ n₇ n₈ = from (leb 5 k) refl
-  where
-    from : (t : Bool) → leb 5 k ≡ t → (t && leb k 8) ≡ false
-    from true e = lt-leb k 8 (omega (arith, leb-true 5 k e))
-    from false e = refl
-
--- an opener that is no hole's and no quote's is a bracket's
-pub unclosed-bracket : (k : ℕ) → (k ≡ 14 → ⊥) → (k ≡ 7 → ⊥) → (k ≡ 8 → ⊥) → (k ≡ 5 → ⊥) → (k ≡ 6 → ⊥) → unclosed k ≡ UnclosedBracket
-unfolding unclosed
-unclosed-bracket k n₁₄ n₇ n₈ n₅ n₆ = rw (ne-eqb k 14 n₁₄, ne-eqb k 7 n₇, ne-eqb k 8 n₈, no-quote k n₅ n₆ n₇ n₈)
-
 -- a refusal with a note has an opener to note
 pub noted-open : (number depth : ℕ) → eqb number AnotherDue && ltb 0 depth ≡ true → 0 < depth
 noted-open number depth e = decide (eqb number AnotherDue) (λ q. ltb-true 0 depth (rw q at e)) (λ q. absurd (false≢true (rw q at e)))
+
+and-false : (b : Bool) → b && false ≡ false
+and-false true = refl
+and-false false = refl
+
+-- the three ways of `full`: the stack has a place, the lexeme opens, it does not
+pub full-shallow : (stack places : ℕ) (c : Cursor) (k : ℕ) → isSpace k ≡ false → c .depth < stack → cond (leb places (c .lexemes)) ListFull 0 ≡ fullOf stack places c k
+unfolding fullOf
+full-shallow stack places c k b h = rw (b, lt-leb stack (c .depth) h, and-false (isOpener k))
+
+pub full-opener : (stack places : ℕ) (c : Cursor) (k : ℕ) → stack ≤ c .depth → isOpener k ≡ true → StackFull ≡ fullOf stack places c k
+unfolding fullOf
+full-opener stack places c k h o = rw (o, le-leb stack (c .depth) h)
+
+pub full-other : (stack places : ℕ) (c : Cursor) (k : ℕ) → isSpace k ≡ false → isOpener k ≡ false → cond (leb places (c .lexemes)) ListFull 0 ≡ fullOf stack places c k
+unfolding fullOf
+full-other stack places c k b o = rw (b, o)
+
+-- a Space opens and closes nothing
+pub space-opens : (k : ℕ) → isSpace k ≡ true → isOpener k ≡ false
+unfolding isOpener
+space-opens k e = rw (eqb-true k 0 e)
+
+pub space-closes : (k : ℕ) → isSpace k ≡ true → isCloser k ≡ false
+unfolding isCloser
+space-closes k e = rw (eqb-true k 0 e)
+
+-- an opener and a closer are no Space
+pub opener-listed : (k : ℕ) → isOpener k ≡ true → isSpace k ≡ false
+opener-listed k o = decide (isSpace k) (λ b. absurd (false≢true (sym (space-opens k b) ∙ o))) (λ b. b)
+
+pub closer-listed : (k : ℕ) → isCloser k ≡ true → isSpace k ≡ false
+closer-listed k o = decide (isSpace k) (λ b. absurd (false≢true (sym (space-closes k b) ∙ o))) (λ b. b)
+
+pub max-stays : (m n : ℕ) → n ≤ m → max m n ≡ m
+max-stays m n h = omega arith

@@ -1,15 +1,14 @@
 -- Laws of a step in a string by position, as the code tells its cases apart: escapes, the closing quote, the hole, the inner part.
 use Prim.Native.Nat.{ℕ, suc, _+_, _≤_, _<_}
 use Prim.Native.Char.{code}
-use mathlib.Core.Path.{_≡_, refl, sym, ap, _∙_}
+use mathlib.Core.Path.{_≡_, refl, sym, _∙_}
 use mathlib.Core.List.{List}
-use mathlib.Core.Bool.{Bool, true, false, cond, not, _&&_, _||_, true≢false, and-eq-true-iff}
+use mathlib.Core.Bool.{Bool, true, false, cond, not, _&&_, _||_, true≢false}
 use native.Mathlib.Omega.{arith}
 use native.Mathlib.Nat.{add-zero, add-assoc}
-use lib.Dec.{eqb}
 use lib.ListN.{length, drop, getD}
 use lib.Seq.{drop-drop}
-use borrow.Author.Tests.{eqb-true, eqb-false, eq-eqb, le-leb, lt-leb, lt-ltb, le-ltb}
+use borrow.Author.Tests.{le-leb, lt-leb, lt-ltb, le-ltb}
 use Rattle.rules.specs.Text.{is, begins, run}
 use Rattle.rules.specs.Bytes.{isHexDigit, isOver127}
 use Rattle.rules.specs.Utf8.{isTail}
@@ -110,7 +109,7 @@ module _ (t : List ℕ) (at stop : ℕ) (triple : Bool) where
   quoted-escape b = record { same = λ quote q s r. rw (in-escape quote (drop at t) (begins-is "\\" t at refl b)) }
 
   -- at a quote that closes
-  pub quoted-close : getD t at 0 ≡ code "\"" → cond triple (begins "\"\"\"" (drop at t)) true ≡ true → Quoted at (drop at t) stop triple (lexemeTo QuoteClose (at + cond triple 3 1))
+  quoted-close : getD t at 0 ≡ code "\"" → cond triple (begins "\"\"\"" (drop at t)) true ≡ true → Quoted at (drop at t) stop triple (lexemeTo QuoteClose (at + cond triple 3 1))
   quoted-close b c = record {
     same = λ quote q s r.
         rw (in-quote quote (drop at t) (begins-is "\"" t at refl b), ← r)
@@ -118,7 +117,7 @@ module _ (t : List ℕ) (at stop : ℕ) (triple : Bool) where
   }
 
   -- at a quote that does not
-  pub quoted-quote : getD t at 0 ≡ code "\"" → cond triple (begins "\"\"\"" (drop at t)) true ≡ false → Quoted at (drop at t) stop triple (lexemeTo StringInner (at + 1 + run (isInnerFor stop) (drop (at + 1) t)))
+  quoted-quote : getD t at 0 ≡ code "\"" → cond triple (begins "\"\"\"" (drop at t)) true ≡ false → Quoted at (drop at t) stop triple (lexemeTo StringInner (at + 1 + run (isInnerFor stop) (drop (at + 1) t)))
   quoted-quote b c = record {
     same = λ quote q s r.
         rw (in-quote quote (drop at t) (begins-is "\"" t at refl b), ← r)
@@ -145,23 +144,11 @@ module _ (t : List ℕ) (at stop : ℕ) (triple : Bool) where
   closes-at : getD t at 0 ≡ code "\"" → not triple || is "\"" (getD t (at + 1) 0) && is "\"" (getD t (at + 2) 0) ≡ cond triple (begins "\"\"\"" (drop at t)) true
   closes-at b = decide triple (λ f. rw f (sym (three-quotes t at (begins-is "\"" t at refl b)))) (λ f. rw f)
 
-  -- the three tests of the code: a quote that closes, a stop that is no quote, neither
-  pub string-close : (eqb (getD t at 0) (code "\"") && (not triple || is "\"" (getD t (at + 1) 0) && is "\"" (getD t (at + 2) 0))) ≡ true →
+  -- a quote, by the code's test for one that closes
+  pub string-close : getD t at 0 ≡ code "\"" → not triple || is "\"" (getD t (at + 1) 0) && is "\"" (getD t (at + 2) 0) ≡ true →
       Quoted at (drop at t) stop triple (lexemeTo QuoteClose (at + cond triple 3 1))
-  string-close e =
-      let both = and-eq-true-iff (eqb (getD t at 0) (code "\"")) (not triple || is "\"" (getD t (at + 1) 0) && is "\"" (getD t (at + 2) 0)) .0 e in
-      let b : getD t at 0 ≡ code "\"" = eqb-true (getD t at 0) (code "\"") (both .0) in
-      quoted-close b (sym (closes-at b) ∙ both .1)
+  string-close b e = quoted-close b (sym (closes-at b) ∙ e)
 
-  pub string-hole : (getD t at 0 ≡ code "\\" → ⊥) → (not (eqb (getD t at 0) (code "\"")) && eqb (getD t at 0) stop) ≡ true → Quoted at (drop at t) stop triple (lexemeTo HoleOpen (at + 1))
-  string-hole a e =
-      let both = and-eq-true-iff (not (eqb (getD t at 0) (code "\""))) (eqb (getD t at 0) stop) .0 e in
-      quoted-hole a (λ q. true≢false (sym (both .0) ∙ ap not (eq-eqb (getD t at 0) (code "\"") q))) (eqb-true (getD t at 0) stop (both .1))
-
-  pub string-inner : (getD t at 0 ≡ code "\\" → ⊥) → (eqb (getD t at 0) (code "\"") && (not triple || is "\"" (getD t (at + 1) 0) && is "\"" (getD t (at + 2) 0))) ≡ false →
-      (not (eqb (getD t at 0) (code "\"")) && eqb (getD t at 0) stop) ≡ false → Quoted at (drop at t) stop triple (lexemeTo StringInner (at + 1 + run (isInnerFor stop) (drop (at + 1) t)))
-  string-inner a c h = decide (eqb (getD t at 0) (code "\""))
-      (λ q.
-      let b : getD t at 0 ≡ code "\"" = eqb-true (getD t at 0) (code "\"") q in
-      quoted-quote b (sym (closes-at b) ∙ rw q at c))
-      (λ q. quoted-inner a (eqb-false (getD t at 0) (code "\"") q) (eqb-false (getD t at 0) stop (rw q at h)))
+  pub string-quote : getD t at 0 ≡ code "\"" → not triple || is "\"" (getD t (at + 1) 0) && is "\"" (getD t (at + 2) 0) ≡ false →
+      Quoted at (drop at t) stop triple (lexemeTo StringInner (at + 1 + run (isInnerFor stop) (drop (at + 1) t)))
+  string-quote b e = quoted-quote b (sym (closes-at b) ∙ e)

@@ -8,7 +8,7 @@ use native.Mathlib.Omega.{arith}
 use lib.Dec.{leb, eqb}
 use lib.ListN.{take, drop, length, set, getD, length-append, length-drop, length-set, length-take, length-map}
 use lib.Seq.{drop-drop, drop-set-lt}
-use borrow.Author.Tests.{leb-true, leb-false, eqb-true, eq-eqb, ne-eqb}
+use borrow.Author.Tests.{leb-true, leb-false, eq-eqb, ne-eqb}
 use mathlib.Core.Option.{none, some}
 use Rattle.rules.specs.Text.{keep, all}
 use Rattle.rules.specs.Utf8.{firstBad}
@@ -17,20 +17,14 @@ use Rattle.rules.specs.Spans.{span, low, high, spanOf}
 use Rattle.rules.specs.Kinds.{Nothing, between, isSpace, isOpener, isCloser}
 use Rattle.rules.specs.Step.{found, stop, step}
 use Rattle.rules.specs.Lexing.{Piece, piece, End, stopped, Trace, noteOf, verdictOf, lexedOf, listing, lexing, ends, after, openAfter, codesAfter, innermost, atEnd, traceFrom, depthAfter, roomAfter, traceIn, lexemesOf, spacesOf, joined, deepestFrom, Lexeme, lexeme, placed, listedOf, openOf, placesOf, kindsWith, wordsWith}
-use Rattle.rules.proofs.Trace.{joined-append, placed-append, listed-kept, open-append, open-codes, open-length, deepest-snoc, trace-found, trace-stopped, trace-ended, trace-good, within, within-ends, within-after, within-full-stack, within-full-list, behind, behind-after, behind-ends, kinds-snoc, words-snoc, kinds-length, words-length, OnStack, stack-push, stack-pop, stack-top-kind, untouched-more}
+use Rattle.rules.proofs.Trace.{joined-append, placed-append, listed-kept, open-append, open-codes, open-length, deepest-snoc, trace-found, trace-stopped, trace-ended, trace-good, within, within-ends, within-after, within-full-stack, within-full-list, behind, behind-after, behind-ends, kinds-snoc, words-snoc, OnStack, stack-push, stack-pop, stack-top-kind, untouched-more}
 use Rattle.rules.proofs.Text.{decide, keep-append}
 use Rattle.rules.proofs.Spans.{span-of-words}
 use Rattle.lexer.specs.Cursor.{start, advanceOf, fullOf}
 use Rattle.lexer.specs.declared.Cursor.{Cursor}
+use Rattle.lexer.proofs.Parts.{space-opens, space-closes}
 
--- General: what is kept of a list is no longer than the list
-keep-length : {A : Type 0} (p : A → Bool) (xs : List A) → length (keep p xs) ≤ length xs
-keep-length p [] = omega arith
-keep-length p (x ∷ xs) =
-    let more : length (keep p xs) ≤ length xs = keep-length p xs in
-    decide (p x) (λ e. rw e (omega arith)) (λ e. rw e (omega arith))
-
--- one element more, by whether it is kept
+-- General: one element more, by whether it is kept
 keep-more : {A : Type 0} (p : A → Bool) (xs : List A) (x : A) → p x ≡ true → keep p (xs ++ (x ∷ [])) ≡ keep p xs ++ (x ∷ [])
 keep-more p xs x e = rw (keep-append p xs (x ∷ []), e)
 
@@ -59,34 +53,33 @@ and-second : (a b : Bool) → a && b ≡ false → a ≡ true → b ≡ false
 and-second true b e t = e
 and-second false b e t = absurd (false≢true t)
 
--- a Space opens and closes nothing
-space-opens : (k : ℕ) → isSpace k ≡ true → isOpener k ≡ false
-unfolding isOpener
-space-opens k e = rw (eqb-true k 0 e)
+-- where there is room for a lexeme, neither the stack nor the list is full
+has-room : (stack places : ℕ) (c : Cursor) (k : ℕ) → fullOf stack places c k ≡ 0 → (isOpener k && leb stack (c .depth) ≡ false) × (not (isSpace k) && leb places (c .lexemes) ≡ false)
+unfolding fullOf
+has-room stack places c k f = neither (isOpener k && leb stack (c .depth)) (not (isSpace k) && leb places (c .lexemes)) 29 30 f
 
-space-closes : (k : ℕ) → isSpace k ≡ true → isCloser k ≡ false
-unfolding isCloser
-space-closes k e = rw (eqb-true k 0 e)
+pub room-list : (stack places : ℕ) (c : Cursor) (k : ℕ) → fullOf stack places c k ≡ 0 → isSpace k ≡ false → c .lexemes < places
+room-list stack places c k f b = leb-false places (c .lexemes) (and-second (not (isSpace k)) (leb places (c .lexemes)) (has-room stack places c k f .1) (ap not b))
+
+pub room-stack : (stack places : ℕ) (c : Cursor) (k : ℕ) → fullOf stack places c k ≡ 0 → isOpener k ≡ true → c .depth < stack
+room-stack stack places c k f b = leb-false stack (c .depth) (and-second (isOpener k) (leb stack (c .depth)) (has-room stack places c k f .0) b)
 
 -- how many are open after one more lexeme: one more after an opener, one fewer after a closer, as many after another
-depth-opens : (d k : ℕ) → isOpener k ≡ true → depthAfter d k ≡ suc d
+pub depth-opens : (d k : ℕ) → isOpener k ≡ true → depthAfter d k ≡ suc d
 depth-opens d k e = rw e
 
 depth-closes : (d k : ℕ) → isOpener k ≡ false → isCloser k ≡ true → depthAfter d k ≡ pred d
 depth-closes d k e f = rw (e, f)
 
-depth-stays : (d k : ℕ) → isOpener k ≡ false → isCloser k ≡ false → depthAfter d k ≡ d
+pub depth-stays : (d k : ℕ) → isOpener k ≡ false → isCloser k ≡ false → depthAfter d k ≡ d
 depth-stays d k e f = rw (e, f)
 
-space-depth : (d k : ℕ) → isSpace k ≡ true → depthAfter d k ≡ d
+pub space-depth : (d k : ℕ) → isSpace k ≡ true → depthAfter d k ≡ d
 space-depth d k e = depth-stays d k (space-opens k e) (space-closes k e)
 
 -- one more is open only after an opener
-depth-rest : (d k : ℕ) → isOpener k ≡ false → depthAfter d k ≤ d
+pub depth-rest : (d k : ℕ) → isOpener k ≡ false → depthAfter d k ≤ d
 depth-rest d k e = decide (isCloser k) (λ f. omega (arith, depth-closes d k e f)) (λ f. omega (arith, depth-stays d k e f))
-
-depth-one : (d k : ℕ) → depthAfter d k ≤ suc d
-depth-one d k = decide (isOpener k) (λ e. omega (arith, depth-opens d k e)) (λ e. omega (arith, depth-rest d k e))
 
 -- the codes of what is open are openers' after one more lexeme too
 openers-after : (os : List ℕ) (k : ℕ) → all isOpener os ≡ true → all isOpener (codesAfter os k) ≡ true
@@ -133,16 +126,6 @@ open-deepest doc at os (p ∷ ps) =
     let depth : length os₁ ≡ depthAfter (length os) (p .kind) = open-length (λ x. x .kind) os l in
     omega (arith, rw depth at (open-deepest doc next os₁ ps))
 
--- each step opens at most one
-open-steps : (doc at : ℕ) (os : List Lexeme) (ps : List Piece) → length (openOf os (placed doc at ps)) ≤ length os + length ps
-open-steps doc at os [] = omega arith
-open-steps doc at os (p ∷ ps) =
-    let next : ℕ = at + length (p .bytes) in
-    let l : Lexeme = lexeme (p .kind) (span doc at next) in
-    let os₁ : List Lexeme = openAfter (λ x. x .kind) os l in
-    let depth : length os₁ ≡ depthAfter (length os) (p .kind) = open-length (λ x. x .kind) os l in
-    omega (arith, open-steps doc next os₁ ps, depth-one (length os) (p .kind))
-
 -- the bytes of lexemes and of Spaces are all bytes
 parts : (ps : List Piece) → length (joined (lexemesOf ps)) + length (joined (spacesOf ps)) ≡ length (joined ps)
 parts [] = refl
@@ -151,6 +134,13 @@ parts (p ∷ ps) =
     decide (isSpace (p .kind))
     (λ e. rw e (simp length-append (omega arith)))
     (λ e. rw e (simp length-append (omega arith)))
+
+-- lexemes and Spaces are all steps
+steps-parts : (ps : List Piece) → length (lexemesOf ps) + length (spacesOf ps) ≡ length ps
+steps-parts [] = refl
+steps-parts (p ∷ ps) =
+    let more : length (lexemesOf ps) + length (spacesOf ps) ≡ length ps = steps-parts ps in
+    decide (isSpace (p .kind)) (λ e. rw e (omega arith)) (λ e. rw e (omega arith))
 
 -- what is open, by whether there is any: its innermost, and the note
 none-open : {A : Type 0} (os : List A) → length os ≡ 0 → os ≡ []
@@ -177,8 +167,7 @@ pub record Counted (doc : ℕ) (past : List Piece) (c : Cursor) : Type 0 where
   pub at : c .at ≡ length (joined past)
   pub depth : c .depth ≡ length (opened doc past)
   pub lexemes : c .lexemes ≡ length (lexemesOf past)
-  pub steps : c .steps ≡ length past
-  pub kept : c .kept ≡ length (joined (lexemesOf past))
+  pub spaces : c .spaces ≡ length (spacesOf past)
   pub dropped : c .dropped ≡ length (joined (spacesOf past))
   pub deepest : c .deepest ≡ deepestFrom 0 past
 
@@ -188,7 +177,6 @@ unfolding advanceOf
 counted-snoc doc past p c e h q =
     let at₁ : e ≡ length (joined (past ++ (p ∷ []))) = omega (arith, joined-snoc past p, h .at) in
     let bytes : e - c .at ≡ length (p .bytes) = omega arith in
-    let steps₁ : c .steps + 1 ≡ length (past ++ (p ∷ [])) = omega (arith, length-append past (p ∷ []), h .steps) in
     let depth₁ : depthAfter (c .depth) (p .kind) ≡ length (opened doc (past ++ (p ∷ []))) = rw (h .depth) (sym (depth-snoc doc past p)) in
     let deepest₁ : deepestFrom 0 (past ++ (p ∷ [])) ≡ max (c .deepest) (depthAfter (c .depth) (p .kind)) =
     rw (h .depth, h .deepest) (deepest-snoc doc 0 [] past p) in
@@ -198,8 +186,7 @@ counted-snoc doc past p c e h q =
       at = at₁;
       depth = sym (space-depth (c .depth) (p .kind) b) ∙ depth₁;
       lexemes = rw (keep-same (λ x. not (isSpace (x .kind))) past p (ap not b)) (h .lexemes);
-      steps = steps₁;
-      kept = rw (keep-same (λ x. not (isSpace (x .kind))) past p (ap not b)) (h .kept);
+      spaces = rw (keep-more (λ x. isSpace (x .kind)) past p b, length-append (spacesOf past) (p ∷ []), h .spaces);
       dropped = rw (keep-more (λ x. isSpace (x .kind)) past p b, joined-snoc (spacesOf past) p, bytes, h .dropped);
       deepest = omega (arith, deepest₁, space-depth (c .depth) (p .kind) b, open-deepest doc 0 [] past, h .depth, h .deepest);
     }))
@@ -208,8 +195,7 @@ counted-snoc doc past p c e h q =
       at = at₁;
       depth = depth₁;
       lexemes = rw (keep-more (λ x. not (isSpace (x .kind))) past p (ap not b), length-append (lexemesOf past) (p ∷ []), h .lexemes);
-      steps = steps₁;
-      kept = rw (keep-more (λ x. not (isSpace (x .kind))) past p (ap not b), joined-snoc (lexemesOf past) p, bytes, h .kept);
+      spaces = rw (keep-same (λ x. isSpace (x .kind)) past p b) (h .spaces);
       dropped = rw (keep-same (λ x. isSpace (x .kind)) past p b) (h .dropped);
       deepest = sym deepest₁;
     }))
@@ -228,18 +214,19 @@ abbrev pub stackWordsAfter : Cursor → (kind low high : ℕ) → List ℕ → L
 stackWordsAfter c k l h sw = cond (isOpener k) (set (set sw (c .depth * 2) l) (c .depth * 2 + 1) h) sw
 
 -- the cursor after a lexeme that ends at `e`
-record Advanced (c : Cursor) (k e : ℕ) (d : Cursor) : Type 0 where
-  at : d .at ≡ e
-  depth : d .depth ≡ depthAfter (c .depth) k
-  steps : d .steps ≡ c .steps + 1
-  deepest : d .deepest ≡ max (c .deepest) (depthAfter (c .depth) k)
+pub record Advanced (c : Cursor) (k e : ℕ) (d : Cursor) : Type 0 where
+  pub at : d .at ≡ e
+  pub depth : d .depth ≡ depthAfter (c .depth) k
+  pub steps : d .lexemes + d .spaces ≡ c .lexemes + c .spaces + 1
+  pub dropped : d .dropped ≤ c .dropped + (e - c .at)
+  pub deepest : d .deepest ≡ max (c .deepest) (depthAfter (c .depth) k)
 
-advanced : (c : Cursor) (k e : ℕ) → c .depth ≤ c .deepest → Advanced c k e (advanceOf c k e)
+pub advanced : (c : Cursor) (k e : ℕ) → c .depth ≤ c .deepest → Advanced c k e (advanceOf c k e)
 unfolding advanceOf
 advanced c k e h =
     decide (isSpace k)
-    (λ b. rw (advanceOf, b) (record { at = refl; depth = sym (space-depth (c .depth) k b); steps = refl; deepest = omega (arith, space-depth (c .depth) k b) }))
-    (λ b. rw (advanceOf, b) (record { at = refl; depth = refl; steps = refl; deepest = refl }))
+    (λ b. rw (advanceOf, b) (record { at = refl; depth = sym (space-depth (c .depth) k b); steps = omega arith; dropped = omega arith; deepest = omega (arith, space-depth (c .depth) k b) }))
+    (λ b. rw (advanceOf, b) (record { at = refl; depth = refl; steps = omega arith; dropped = omega arith; deepest = refl }))
 
 lexemes-same : (c : Cursor) (k e : ℕ) → isSpace k ≡ true → advanceOf c k e .lexemes ≡ c .lexemes
 unfolding advanceOf
@@ -304,11 +291,11 @@ words-untouched true d e n l h sw sw₀ same le below =
     ∙ untouched-more (d * 2) (e * 2) sw sw₀ (omega arith) same
 words-untouched false d e n l h sw sw₀ same le below = untouched-more (d * 2) (e * 2) sw sw₀ (omega arith) same
 
-kinds-as-long : (b : Bool) (n k : ℕ) (sk : List ℕ) → length (cond b (set sk n k) sk) ≡ length sk
+pub kinds-as-long : (b : Bool) (n k : ℕ) (sk : List ℕ) → length (cond b (set sk n k) sk) ≡ length sk
 kinds-as-long true n k sk = length-set sk n k
 kinds-as-long false n k sk = refl
 
-words-as-long : (b : Bool) (n l h : ℕ) (sw : List ℕ) → length (cond b (set (set sw (n * 2) l) (n * 2 + 1) h) sw) ≡ length sw
+pub words-as-long : (b : Bool) (n l h : ℕ) (sw : List ℕ) → length (cond b (set (set sw (n * 2) l) (n * 2 + 1) h) sw) ≡ length sw
 words-as-long true n l h sw = simp length-set
 words-as-long false n l h sw = refl
 
@@ -327,7 +314,7 @@ module _ (doc : ℕ) (text ks₀ ws₀ sk₀ sw₀ : List ℕ) where
     pub counted : Counted doc past c
     pub inside : c .at ≤ length text
     -- each step behind has a byte or more
-    pub moved : c .steps ≤ c .at
+    pub moved : c .lexemes + c .spaces ≤ c .at
     pub whole : traceIn places stack text ≡ behind past (within stack (c .depth) (places - c .lexemes) (traceFrom (codes doc past) 0 (drop (c .at) text)))
     pub room : c .lexemes ≤ places
     pub shallow : c .depth ≤ stack
@@ -351,7 +338,7 @@ module _ (doc : ℕ) (text ks₀ ws₀ sk₀ sw₀ : List ℕ) where
         small = small;
         id = id;
         past = [];
-        counted = record { at = refl; depth = refl; lexemes = refl; steps = refl; kept = refl; dropped = refl; deepest = refl };
+        counted = record { at = refl; depth = refl; lexemes = refl; spaces = refl; dropped = refl; deepest = refl };
         inside = omega arith;
         moved = omega arith;
         whole = rw (trace-good text (omega arith) good, all-left);
@@ -372,26 +359,15 @@ module _ (doc : ℕ) (text ks₀ ws₀ sk₀ sw₀ : List ℕ) where
 module _ {doc : ℕ} {text ks₀ ws₀ sk₀ sw₀ ks ws sk sw : List ℕ} {c : Cursor} (s : Standing doc text ks₀ ws₀ sk₀ sw₀ ks ws sk sw c) where
   -- what the code needs of the counts: none can overflow
   pub record Bounds : Type 0 where
-    pub steps : c .steps ≤ c .at
-    pub lexemes : c .lexemes ≤ c .at
-    pub bytes : c .kept + c .dropped ≡ c .at
-    pub depth : c .depth ≤ c .at
+    pub steps : c .lexemes + c .spaces ≤ c .at
+    pub dropped : c .dropped ≤ c .at
 
   pub bounds : Bounds
   bounds =
       record {
         steps = s .moved;
-        lexemes = omega (arith, s .counted, s .moved, keep-length (λ p. not (isSpace (p .kind))) (s .past));
-        bytes = omega (arith, s .counted, parts (s .past));
-        depth = omega (arith, s .counted, s .moved, open-steps doc 0 [] (s .past));
+        dropped = omega (arith, s .counted, parts (s .past));
       }
-
-  -- the arrays are as long as they were, so the places lie inside them
-  pub list-kinds : length ks ≡ length ks₀
-  list-kinds = rw (s .kinds) (kinds-length (listedOf (placed doc 0 (s .past))) ks₀ (omega (arith, listed-kept doc 0 (s .past), s .counted .lexemes, s .room)))
-
-  pub list-words : length ws ≡ length ws₀
-  list-words = rw (s .words) (words-length (listedOf (placed doc 0 (s .past))) ws₀ (omega (arith, listed-kept doc 0 (s .past), s .counted .lexemes, s .room)))
 
   -- the innermost opener, as the stack has it
   pub top-code : (0 < c .depth) → getD sk (c .depth - 1) 0 ≡ innermost (codes doc (s .past))
@@ -417,11 +393,13 @@ module _ {doc : ℕ} {text ks₀ ws₀ sk₀ sw₀ ks ws sk sw : List ℕ} {c : 
   -- the call's answer where it ends here
   pub answer : (e : End) → traceIn (placesOf ks₀ ws₀) (placesOf sk₀ sw₀) text ≡ record { pieces = s .past; end = e } →
       lexing doc (placesOf ks₀ ws₀) (placesOf sk₀ sw₀) text ≡
-      record { verdict = verdictOf doc (c .at) (opened doc (s .past)) e; lexemes = c .lexemes; steps = c .steps; kept = c .kept; dropped = c .dropped; deepest = c .deepest }
+      record { verdict = verdictOf doc (c .at) (opened doc (s .past)) e; lexemes = c .lexemes; steps = c .lexemes + c .spaces; kept = c .at - c .dropped; dropped = c .dropped; deepest = c .deepest }
   unfolding lexing lexedOf
   answer e q =
       let n : Counted doc (s .past) c = s .counted in
-      rw (q, n .at, n .lexemes, n .steps, n .kept, n .dropped, n .deepest)
+      let steps : c .lexemes + c .spaces ≡ length (s .past) = omega (arith, n .lexemes, n .spaces, steps-parts (s .past)) in
+      let kept : c .at - c .dropped ≡ length (joined (lexemesOf (s .past))) = omega (arith, n .at, n .dropped, parts (s .past)) in
+      rw (q, steps, kept, n .at, n .lexemes, n .dropped, n .deepest)
 
   pub listed : (e : End) → traceIn (placesOf ks₀ ws₀) (placesOf sk₀ sw₀) text ≡ record { pieces = s .past; end = e } →
       listing doc (placesOf ks₀ ws₀) (placesOf sk₀ sw₀) text ≡ listedOf (placed doc 0 (s .past))
@@ -491,20 +469,6 @@ module _ {doc : ℕ} {text ks₀ ws₀ sk₀ sw₀ ks ws sk sw : List ℕ} {c : 
           (λ b. let due : ListFull ≡ number = rw (a, b) at f in rw (← due) (full-list a b))
           (λ b. let due : 0 ≡ number = rw (a, b) at f in absurd (full (sym due))))
 
-      -- where there is room, neither the stack nor the list is full for it
-      has-room : fullOf (placesOf sk₀ sw₀) (placesOf ks₀ ws₀) c k ≡ 0 →
-          (isOpener k && leb (placesOf sk₀ sw₀) (c .depth) ≡ false) × (not (isSpace k) && leb (placesOf ks₀ ws₀) (c .lexemes) ≡ false)
-      unfolding fullOf
-      has-room f = neither (isOpener k && leb (placesOf sk₀ sw₀) (c .depth)) (not (isSpace k) && leb (placesOf ks₀ ws₀) (c .lexemes)) 29 30 f
-
-      -- room for a lexeme
-      pub room-list : fullOf (placesOf sk₀ sw₀) (placesOf ks₀ ws₀) c k ≡ 0 → isSpace k ≡ false → c .lexemes < placesOf ks₀ ws₀
-      room-list f b =
-          leb-false (placesOf ks₀ ws₀) (c .lexemes) (and-second (not (isSpace k)) (leb (placesOf ks₀ ws₀) (c .lexemes)) (has-room f .1) (ap not b))
-
-      pub room-stack : fullOf (placesOf sk₀ sw₀) (placesOf ks₀ ws₀) c k ≡ 0 → isOpener k ≡ true → c .depth < placesOf sk₀ sw₀
-      room-stack f b = leb-false (placesOf sk₀ sw₀) (c .depth) (and-second (isOpener k) (leb (placesOf sk₀ sw₀) (c .depth)) (has-room f .0) b)
-
       -- the whole call's trace, with the step that was found among those behind
       whole-on : fullOf (placesOf sk₀ sw₀) (placesOf ks₀ ws₀) c k ≡ 0 →
           traceIn (placesOf ks₀ ws₀) (placesOf sk₀ sw₀) text ≡
@@ -515,9 +479,9 @@ module _ {doc : ℕ} {text ks₀ ws₀ sk₀ sw₀ ks ws sk sw : List ℕ} {c : 
           let stack : ℕ = placesOf sk₀ sw₀ in
           let left : ℕ = placesOf ks₀ ws₀ - c .lexemes in
           let m : Advanced c k (c .at + n) (advanceOf c k (c .at + n)) = advanced c k (c .at + n) (s .deeper) in
-          let listable : not (isSpace k) && eqb left 0 ≡ false = rw (none-left (placesOf ks₀ ws₀) (c .lexemes)) at (has-room f .1) in
+          let listable : not (isSpace k) && eqb left 0 ≡ false = rw (none-left (placesOf ks₀ ws₀) (c .lexemes)) at (has-room (placesOf sk₀ sw₀) (placesOf ks₀ ws₀) c k f .1) in
           s .whole ∙ ap (λ (t : Trace). behind (s .past) (within stack (c .depth) left t)) now-later
-          ∙ ap (behind (s .past)) (within-after stack (c .depth) left now later (has-room f .0) listable)
+          ∙ ap (behind (s .past)) (within-after stack (c .depth) left now later (has-room (placesOf sk₀ sw₀) (placesOf ks₀ ws₀) c k f .0) listable)
           ∙ behind-after (s .past) now (within stack (depthAfter (c .depth) k) (roomAfter left k) later)
           ∙ rw (m .depth, ← (room-after (placesOf ks₀ ws₀) c k (c .at + n)), codes-snoc doc (s .past) now, m .at, drop-drop n (c .at) text)
 
@@ -533,7 +497,7 @@ module _ {doc : ℕ} {text ks₀ ws₀ sk₀ sw₀ ks ws sk sw : List ℕ} {c : 
           let here : last doc (s .past) now ≡ o = rw (now-length, ← (s .counted .at)) in
           let many : c .lexemes ≡ length (listedOf (placed doc 0 (s .past))) = s .counted .lexemes ∙ sym (listed-kept doc 0 (s .past)) in
           let depth₁ : depthAfter (c .depth) k ≤ placesOf sk₀ sw₀ =
-          decide (isOpener k) (λ b. omega (arith, depth-opens (c .depth) k b, room-stack f b)) (λ b. omega (arith, depth-rest (c .depth) k b, s .shallow)) in
+          decide (isOpener k) (λ b. omega (arith, depth-opens (c .depth) k b, room-stack (placesOf sk₀ sw₀) (placesOf ks₀ ws₀) c k f b)) (λ b. omega (arith, depth-rest (c .depth) k b, s .shallow)) in
           let spans : spanOf l hi ≡ o .at = rw (el, eh) (span-of-words (o .at) (omega (arith, s .small)) (omega (arith, s .small))) in
           let above : isOpener k ≡ true → c .depth < c₁ .deepest = λ b. omega (arith, depth-opens (c .depth) k b, m .deepest) in
           record {
@@ -544,16 +508,16 @@ module _ {doc : ℕ} {text ks₀ ws₀ sk₀ sw₀ ks ws sk sw : List ℕ} {c : 
             inside = omega (arith, m .at);
             moved = omega (arith, m .at, m .steps, s .moved);
             whole = whole-on f;
-            room = decide (isSpace k) (λ b. omega (arith, lexemes-same c k (c .at + n) b, s .room)) (λ b. omega (arith, lexemes-more c k (c .at + n) b, room-list f b));
+            room = decide (isSpace k) (λ b. omega (arith, lexemes-same c k (c .at + n) b, s .room)) (λ b. omega (arith, lexemes-more c k (c .at + n) b, room-list (placesOf sk₀ sw₀) (placesOf ks₀ ws₀) c k f b));
             shallow = omega (arith, m .depth, depth₁);
             deeper = omega (arith, counted₁ .depth, counted₁ .deepest, open-deepest doc 0 [] past₁);
             deepest = omega (arith, m .deepest, s .deepest, depth₁);
             openers = rw (codes-snoc doc (s .past) now) (openers-after (codes doc (s .past)) k (s .openers));
-            kinds = kinds-after doc (s .past) now o here c many ks ks₀ (s .kinds) (λ b. omega (arith, room-list f b));
-            words = words-after doc (s .past) now o here c many l hi ws ws₀ el eh (s .words) (λ b. omega (arith, room-list f b));
+            kinds = kinds-after doc (s .past) now o here c many ks ks₀ (s .kinds) (λ b. omega (arith, room-list (placesOf sk₀ sw₀) (placesOf ks₀ ws₀) c k f b));
+            words = words-after doc (s .past) now o here c many l hi ws ws₀ el eh (s .words) (λ b. omega (arith, room-list (placesOf sk₀ sw₀) (placesOf ks₀ ws₀) c k f b));
             onStack = rw (opened-snoc doc (s .past) now, here, s .counted .depth)
-                (stack-after (opened doc (s .past)) o sk sw l hi (s .onStack) spans (λ b. omega (arith, room-stack f b, s .counted .depth, s .stackKindsLength))
-                (λ b. omega (arith, room-stack f b, s .counted .depth, s .stackWordsLength)));
+                (stack-after (opened doc (s .past)) o sk sw l hi (s .onStack) spans (λ b. omega (arith, room-stack (placesOf sk₀ sw₀) (placesOf ks₀ ws₀) c k f b, s .counted .depth, s .stackKindsLength))
+                (λ b. omega (arith, room-stack (placesOf sk₀ sw₀) (placesOf ks₀ ws₀) c k f b, s .counted .depth, s .stackWordsLength)));
             stackKinds = kinds-untouched (isOpener k) (c .deepest) (c₁ .deepest) (c .depth) k sk sk₀ (s .stackKinds) (omega (arith, m .deepest)) above;
             stackWords = words-untouched (isOpener k) (c .deepest) (c₁ .deepest) (c .depth) l hi sw sw₀ (s .stackWords) (omega (arith, m .deepest)) above;
             stackKindsLength = kinds-as-long (isOpener k) (c .depth) k sk ∙ s .stackKindsLength;

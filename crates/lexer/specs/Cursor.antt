@@ -8,7 +8,7 @@ use Rattle.rules.specs.Lexing.{depthAfter}
 use Rattle.lexer.specs.declared.Cursor.{Cursor}
 
 abbrev pub start : Cursor
-start = record { at = 0; depth = 0; lexemes = 0; steps = 0; kept = 0; dropped = 0; deepest = 0 }
+start = record { at = 0; depth = 0; lexemes = 0; spaces = 0; dropped = 0; deepest = 0 }
 
 -- after a lexeme of a kind that ends at `end`
 unfoldable pub advanceOf : Cursor → (kind end : ℕ) → Cursor
@@ -18,8 +18,7 @@ advanceOf c k e =
       at = e;
       depth = c .depth;
       lexemes = c .lexemes;
-      steps = c .steps + 1;
-      kept = c .kept;
+      spaces = c .spaces + 1;
       dropped = c .dropped + (e - c .at);
       deepest = c .deepest;
     })
@@ -27,8 +26,7 @@ advanceOf c k e =
       at = e;
       depth = depthAfter (c .depth) k;
       lexemes = c .lexemes + 1;
-      steps = c .steps + 1;
-      kept = c .kept + (e - c .at);
+      spaces = c .spaces;
       dropped = c .dropped;
       deepest = max (c .deepest) (depthAfter (c .depth) k);
     })

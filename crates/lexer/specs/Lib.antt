@@ -5,3 +5,4 @@ pub mod Quotes
 pub mod Cursor
 pub mod Memory
 pub mod Results
+pub mod Running

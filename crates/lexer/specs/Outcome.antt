@@ -8,7 +8,7 @@ use Rattle.rules.specs.Refusals.{TooLong, WrongForm}
 use Rattle.rules.specs.Spans.{limit}
 use Rattle.rules.specs.Kinds.{Nothing, isOpener}
 use Rattle.rules.specs.Step.{Step as StepRule, found, stop, step}
-use Rattle.token.specs.Codes.{codeOf, stateCode}
+use Rattle.token.specs.Codes.{stateCode}
 use Rattle.token.specs.declared.Opened.{Opened}
 use Rattle.token.specs.declared.Opened.the-variants.{State as OpenedState, NoOpener}
 use Rattle.lexer.specs.declared.Step.{Step}
@@ -25,7 +25,7 @@ outcome at (stop number from n) = refusedAt number (at + from) (at + from + n)
 
 -- of the code's answer
 abbrev pub stepMeant : Step → Outcome
-stepMeant (Found l) = lexemeTo (codeOf (l .token)) (l .end)
+stepMeant (Found l) = lexemeTo (l .kind) (l .end)
 stepMeant (Refused f) = refusedAt (f .number) (f .start) (f .end)
 
 -- of a step at any position, where a code is innermost

@@ -1,14 +1,12 @@
 -- What the code's result means, and the contracts of the loop's parts.
 use Prim.Native.Nat.{ℕ, _+_, _-_, _*_, _≤_, _<_, _^_}
-use mathlib.Core.Path.{_≡_}
 use mathlib.Core.List.{List}
-use mathlib.Core.Bool.{Bool, true, false, cond, _&&_}
+use mathlib.Core.Bool.{cond, _&&_}
 use mathlib.Core.Option.{Option, none, some}
 use lib.Dec.{ltb, eqb}
-use lib.ListN.{length, set, getD}
-use Rattle.rules.specs.Spans.{Span as SpanRule, span, spanOf, low, high, Verdict, accepted, refused}
+use lib.ListN.{length, getD}
+use Rattle.rules.specs.Spans.{Span as SpanRule, span, spanOf, Verdict, accepted, refused}
 use Rattle.rules.specs.Refusals.{AnotherDue}
-use Rattle.rules.specs.Kinds.{isSpace, isOpener}
 use Rattle.rules.specs.Lexing.{Lexed as LexedRule, unclosed}
 use Rattle.source.specs.Meaning.{refusalMeant}
 use Rattle.lexer.specs.declared.Answer.{Answer}
@@ -38,8 +36,8 @@ abbrev pub lexedAt : Answer → Cursor → Lexed
 lexedAt a c = record {
   answer = a;
   lexemes = c .lexemes;
-  steps = c .steps;
-  kept = c .kept;
+  steps = c .lexemes + c .spaces;
+  kept = c .at - c .dropped;
   dropped = c .dropped;
   deepest = c .deepest;
 }
@@ -48,8 +46,8 @@ abbrev pub countedAt : Verdict → Cursor → LexedRule
 countedAt v c = record {
   verdict = v;
   lexemes = c .lexemes;
-  steps = c .steps;
-  kept = c .kept;
+  steps = c .lexemes + c .spaces;
+  kept = c .at - c .dropped;
   dropped = c .dropped;
   deepest = c .deepest;
 }
@@ -75,42 +73,32 @@ unfoldable pub faultOf : Step → ℕ → Fault
 faultOf (Refused f) at = f
 faultOf (Found l) at = record { end = at; number = 0; start = at }
 
-pub record CanWrite (c : Cursor) (kind : ℕ) (opener : Bool) (end : ℕ) (ks ws sk sw : List ℕ) : Type 0 where
-  pub opens : opener ≡ isOpener kind
-  pub before : c .at < 2 ^ 48
-  pub small : end < 2 ^ 48
-  pub kinds : isSpace kind ≡ false → c .lexemes < length ks
-  pub words : isSpace kind ≡ false → c .lexemes * 2 + 1 < length ws
-  pub stackKinds : isOpener kind ≡ true → c .depth < length sk
-  pub stackWords : isOpener kind ≡ true → c .depth * 2 + 1 < length sw
+-- the code's word for "no fault"
+abbrev pub noFault : Fault
+noFault = record { end = 0; number = 0; start = 0 }
 
--- the list has the lexeme unless it is a Space, the stack if it opens
-pub record Wrote (doc : ℕ) (c : Cursor) (kind end : ℕ) (ks ws sk sw ks′ ws′ sk′ sw′ : List ℕ) : Type 0 where
-  pub kinds : ks′ ≡ cond (isSpace kind) ks (set ks (c .lexemes) kind)
-  pub words : ws′ ≡ cond (isSpace kind) ws (set (set ws (c .lexemes * 2) (low (span doc (c .at) end))) (c .lexemes * 2 + 1) (high (span doc (c .at) end)))
-  pub stackKinds : sk′ ≡ cond (isOpener kind) (set sk (c .depth) kind) sk
-  pub stackWords : sw′ ≡ cond (isOpener kind) (set (set sw (c .depth * 2) (low (span doc (c .at) end))) (c .depth * 2 + 1) (high (span doc (c .at) end))) sw
-
-pub record CanDeepen (kind : ℕ) (opener : Bool) (depth : ℕ) : Type 0 where
-  pub opens : opener ≡ isOpener kind
-  pub small : depth < 2 ^ 48
-
--- no count can overflow
-pub record CanAdvance (c : Cursor) (kind : ℕ) (opener : Bool) (end : ℕ) : Type 0 where
-  pub opens : opener ≡ isOpener kind
+-- no count can overflow; no more is open than the deepest
+pub record CanAdvance (c : Cursor) (end : ℕ) : Type 0 where
   pub forward : c .at ≤ end
   pub small : end < 2 ^ 48
-  pub steps : c .steps ≤ c .at
-  pub lexemes : c .lexemes ≤ c .at
-  pub bytes : c .kept + c .dropped ≡ c .at
-  pub depth : c .depth ≤ c .at
+  pub steps : c .lexemes + c .spaces ≤ c .at
+  pub dropped : c .dropped ≤ c .at
+  pub depth : c .depth ≤ c .deepest
+  pub shallow : c .depth < 2 ^ 63
+
+-- the counts that follow from a cursor can be told
+pub record CanReport (c : Cursor) : Type 0 where
+  pub steps : c .lexemes + c .spaces ≤ c .at
+  pub dropped : c .dropped ≤ c .at
 
 pub record CanStop (f : Fault) (c : Cursor) (sw : List ℕ) : Type 0 where
   pub start : f .start < 2 ^ 48
   pub end : f .end < 2 ^ 48
   pub stack : c .depth * 2 ≤ length sw
+  pub counts : CanReport c
 
 pub record CanFinish (c : Cursor) (sk sw : List ℕ) : Type 0 where
   pub at : c .at < 2 ^ 48
   pub stackKinds : c .depth ≤ length sk
   pub stackWords : c .depth * 2 ≤ length sw
+  pub counts : CanReport c

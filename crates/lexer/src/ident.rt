@@ -161,7 +161,12 @@ pub(crate) fn lex_in_ident(table: &[u8; 256], text: &[u8], at: usize) -> Step
 {
     let run = ident_end(table, text, at);
     let end = give_back(text, at, run);
-    found(end, get_keyword_or_ident(text, at, end))
+    let size = end - at;
+    if (size < 2) | (6 < size) {
+        return found(end, Token::Ident, 4);
+    }
+    let token = get_keyword_or_ident(text, at, end);
+    found(end, token, token::code(token))
 }
 
 // Return whether the bytes are a keyword.

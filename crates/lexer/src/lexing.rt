@@ -1,14 +1,20 @@
-// Lexing a text into a lent list, with a lent stack.
+// Lexing a text into a lent list, with a lent stack. The loop stands in a function of its own, `run`, which is the one place where steps are taken: the optimiser then puts the whole
+// step into the loop.
 ghost use mathlib.Core.Path.{_≡_};
-ghost use Rattle.rules.specs.Kinds.{isOpener, isCloser};
-ghost use Rattle.rules.specs.Lexing.{unclosed, depthAfter, Lexes};
+ghost use mathlib.Core.Bool.{true, false, cond};
+ghost use lib.Dec.{leb};
+ghost use Rattle.rules.specs.Refusals.{ListFull};
+ghost use Prim.Native.Nat.{max, pred};
+ghost use Rattle.rules.specs.Kinds.{Space, isSpace, isOpener, isCloser};
+ghost use Rattle.rules.specs.Lexing.{Lexes};
 ghost use Rattle.lexer.specs.Cursor.{advanceOf, fullOf};
-ghost use Rattle.lexer.specs.Results.{lexedMeant, lexedAt, refusedWith, CanDeepen, CanAdvance, CanWrite, Wrote, CanStop, CanFinish, noteAt, verdictAt, faultOf};
-ghost use Prim.Native.Nat.{max};
+ghost use Rattle.lexer.specs.Results.{lexedMeant, lexedAt, refusedWith, CanAdvance, CanReport, CanStop, CanFinish, noteAt, verdictAt, faultOf, noFault};
+ghost use Rattle.lexer.specs.Running.{CanRun, Runs};
 use crate::Answer;
 use crate::Cursor;
 use crate::Fault;
 use crate::Lexed;
+use crate::Ran;
 use crate::Step;
 use crate::list;
 use crate::next;
@@ -17,58 +23,28 @@ use source::Refusal;
 use source::Span;
 use utf8::Checked;
 
-// Codes 5 to 8, 14, 33, 35, 37.
-fn opens(kind: u8) -> bool
-    ensures { λ r. ⌜ r ≡ isOpener kind ⌝ }
+// 31 where the list has no room for a lexeme, else 0.
+fn list_full(cur: Cursor, places: usize) -> u8
+    ensures { λ r. ⌜ r ≡ cond (leb places (cur .lexemes)) ListFull 0 ⌝ }
 {
-    (5 <= kind) & (kind <= 8) | (kind == 14) | (kind == 33) | (kind == 35) | (kind == 37)
-}
-
-fn closes(kind: u8) -> bool
-    ensures { λ r. ⌜ r ≡ isCloser kind ⌝ }
-{
-    (kind == 9) | (kind == 15) | (kind == 34) | (kind == 36) | (kind == 38)
-}
-
-// 30 or 31 where the stack or the list has no room for a lexeme, else 0.
-fn full(kind: u8, opener: bool, cur: Cursor, stack: usize, places: usize) -> u8
-    requires { ⌜ opener ≡ isOpener kind ⌝ }
-    ensures { λ r. ⌜ r ≡ fullOf stack places cur kind ⌝ }
-{
-    if opener & (stack <= cur.depth) {
-        return 30;
-    }
-    if (kind != 0) & (places <= cur.lexemes) {
+    if places <= cur.lexemes {
         return 31;
     }
     0
 }
 
-// Writes a lexeme to the list unless it is a Space, and to the stack if it opens.
-fn write(
-    doc: u32,
-    cur: Cursor,
-    kind: u8,
-    opener: bool,
-    end: usize,
-    kinds: &mut [u8],
-    words: &mut [u64],
-    skinds: &mut [u8],
-    swords: &mut [u64],
-)
-    requires { ⌜ CanWrite cur kind opener end (now kinds) (now words) (now skinds) (now swords) ⌝ }
-    ensures { λ _. ⌜ Wrote doc cur kind end (now (kinds .entry)) (now (words .entry)) (now (skinds .entry)) (now (swords .entry)) (now (kinds .exit)) (now (words .exit)) (now (skinds .exit)) (now (swords .exit)) ⌝ }
+// 30 or 31 where the stack or the list has no room for a lexeme, else 0. A stack is seldom full, so that `opens` is seldom asked.
+fn full(kind: u8, cur: Cursor, stack: usize, places: usize) -> u8
+    requires { ⌜ isSpace kind ≡ false ⌝ }
+    ensures { λ r. ⌜ r ≡ fullOf stack places cur kind ⌝ }
 {
-    if kind == 0 {
-        return;
+    if cur.depth < stack {
+        return list_full(cur, places);
     }
-    let span = Span::pack(doc, cur.at, end);
-    let place = cur.lexemes;
-    list::put(kinds, words, place, kind, span);
-    if opener {
-        let depth = cur.depth;
-        list::put(skinds, swords, depth, kind, span);
+    if token::opens(kind) {
+        return 30;
     }
+    list_full(cur, places)
 }
 
 fn greater(a: usize, b: usize) -> usize
@@ -77,61 +53,89 @@ fn greater(a: usize, b: usize) -> usize
     if a < b { b } else { a }
 }
 
-// How many are open after a lexeme.
-fn deeper(kind: u8, opener: bool, depth: usize) -> usize
-    requires { ⌜ CanDeepen kind opener depth ⌝ }
-    ensures { λ r. ⌜ r ≡ depthAfter depth kind ⌝ }
+// The counts after a Space.
+fn past_space(cur: Cursor, end: usize) -> Cursor
+    requires { ⌜ CanAdvance cur end ⌝ }
+    ensures { λ r. ⌜ r ≡ advanceOf cur Space end ⌝ }
 {
-    if opener {
-        return depth + 1;
+    let bytes = end - cur.at;
+    Cursor {
+        at: end,
+        depth: cur.depth,
+        lexemes: cur.lexemes,
+        spaces: cur.spaces + 1,
+        dropped: cur.dropped + bytes,
+        deepest: cur.deepest,
     }
-    if !closes(kind) {
-        return depth;
+}
+
+// The counts after an opener.
+fn past_opener(cur: Cursor, kind: u8, end: usize) -> Cursor
+    requires { ⌜ CanAdvance cur end × (isOpener kind ≡ true) ⌝ }
+    ensures { λ r. ⌜ r ≡ advanceOf cur kind end ⌝ }
+{
+    let depth = cur.depth + 1;
+    Cursor {
+        at: end,
+        depth: depth,
+        lexemes: cur.lexemes + 1,
+        spaces: cur.spaces,
+        dropped: cur.dropped,
+        deepest: greater(cur.deepest, depth),
     }
+}
+
+// One fewer, if any.
+fn shallower(depth: usize) -> usize
+    ensures { λ r. ⌜ r ≡ pred depth ⌝ }
+{
     if depth == 0 {
         return 0;
     }
     depth - 1
 }
 
-// The counts after a lexeme.
-fn advance(cur: Cursor, kind: u8, opener: bool, end: usize) -> Cursor
-    requires { ⌜ CanAdvance cur kind opener end ⌝ }
+// The counts after a closer.
+fn past_closer(cur: Cursor, kind: u8, end: usize) -> Cursor
+    requires { ⌜ CanAdvance cur end × (isOpener kind ≡ false) × (isCloser kind ≡ true) ⌝ }
     ensures { λ r. ⌜ r ≡ advanceOf cur kind end ⌝ }
 {
-    let bytes = end - cur.at;
-    let steps = cur.steps + 1;
-    if kind == 0 {
-        return Cursor {
-            at: end,
-            depth: cur.depth,
-            lexemes: cur.lexemes,
-            steps: steps,
-            kept: cur.kept,
-            dropped: cur.dropped + bytes,
-            deepest: cur.deepest,
-        };
-    }
-    let depth = deeper(kind, opener, cur.depth);
+    let depth = cur.depth;
     Cursor {
         at: end,
-        depth: depth,
+        depth: shallower(depth),
         lexemes: cur.lexemes + 1,
-        steps: steps,
-        kept: cur.kept + bytes,
+        spaces: cur.spaces,
         dropped: cur.dropped,
-        deepest: greater(cur.deepest, depth),
+        deepest: cur.deepest,
+    }
+}
+
+// The counts after any other lexeme.
+fn past_other(cur: Cursor, kind: u8, end: usize) -> Cursor
+    requires { ⌜ CanAdvance cur end × (isSpace kind ≡ false) × (isOpener kind ≡ false) × (isCloser kind ≡ false) ⌝ }
+    ensures { λ r. ⌜ r ≡ advanceOf cur kind end ⌝ }
+{
+    Cursor {
+        at: end,
+        depth: cur.depth,
+        lexemes: cur.lexemes + 1,
+        spaces: cur.spaces,
+        dropped: cur.dropped,
+        deepest: cur.deepest,
     }
 }
 
 fn result(answer: Answer, cur: Cursor) -> Lexed
+    requires { ⌜ CanReport cur ⌝ }
     ensures { λ r. ⌜ r ≡ lexedAt answer cur ⌝ }
 {
+    let lexemes = cur.lexemes;
     Lexed {
         answer: answer,
-        lexemes: cur.lexemes,
-        steps: cur.steps,
-        kept: cur.kept,
+        lexemes: lexemes,
+        steps: lexemes + cur.spaces,
+        kept: cur.at - cur.dropped,
         dropped: cur.dropped,
         deepest: cur.deepest,
     }
@@ -166,20 +170,6 @@ fn stopped(doc: u32, fault: Fault, cur: Cursor, swords: &[u64]) -> Lexed
     )
 }
 
-// The refusal of an opener that is never closed.
-fn unclosed_number(kind: u8) -> u8
-    ensures { λ r. ⌜ r ≡ unclosed kind ⌝ }
-{
-    match kind {
-        14 => 26,
-        7 => 28,
-        8 => 28,
-        5 => 27,
-        6 => 27,
-        _ => 25,
-    }
-}
-
 // The result where the end of the text is reached.
 fn report_unclosed_delimiters(doc: u32, cur: Cursor, skinds: &[u8], swords: &[u64]) -> Lexed
     requires { ⌜ CanFinish cur (now skinds) (now swords) ⌝ }
@@ -189,7 +179,7 @@ fn report_unclosed_delimiters(doc: u32, cur: Cursor, skinds: &[u8], swords: &[u6
     if depth == 0 {
         return result(Answer::Accepted, cur);
     }
-    let number = unclosed_number(skinds[depth - 1]);
+    let number = token::unclosed_number(skinds[depth - 1]);
     let opener = list::opener(swords, depth);
     let at = Span::pack(doc, cur.at, cur.at);
     result(
@@ -216,6 +206,92 @@ fn fault_of(answer: Step, at: usize) -> Fault
     }
 }
 
+// No fault: the number 0.
+fn faultless() -> Fault
+    ensures { λ r. ⌜ r ≡ noFault ⌝ }
+{
+    Fault {
+        end: 0,
+        number: 0,
+        start: 0,
+    }
+}
+
+// Takes steps from a cursor on while it stands before `stop`: one step where `stop` is the next position, all of them where it is the text's end. The innermost state is kept beside
+// the cursor, so that it is read from the stack after a closer alone.
+pub(crate) fn run(
+    doc: u32,
+    text: &[u8],
+    from: Cursor,
+    stop: usize,
+    kinds: &mut [u8],
+    words: &mut [u64],
+    skinds: &mut [u8],
+    swords: &mut [u64],
+) -> Ran
+    requires { ⌜ CanRun (now text) from stop (now skinds) (now swords) ⌝ }
+    ensures { λ r. ⌜ Runs doc (now (text .entry)) from stop (now (kinds .entry)) (now (words .entry)) (now (skinds .entry)) (now (swords .entry)) r (now (kinds .exit)) (now (words .exit)) (now (skinds .exit)) (now (swords .exit)) ⌝ }
+{
+    let places = list::places(kinds, words);
+    let stack = list::places(skinds, swords);
+    let table = token::table();
+    let first = from.depth;
+    let mut top = list::top_state(skinds, first);
+    let mut cur = from;
+    let mut kind = 0;
+    while cur.at < stop {
+        let at = cur.at;
+        let answer = next::next(&table, text, at, top);
+        let Step::Found(lexeme) = answer else {
+            return Ran {
+                cur: cur,
+                fault: fault_of(answer, at),
+                kind: 0,
+            };
+        };
+        let end = lexeme.end;
+        kind = lexeme.kind;
+        if kind == 0 {
+            cur = past_space(cur, end);
+        } else {
+            let number = full(kind, cur, stack, places);
+            if number != 0 {
+                return Ran {
+                    cur: cur,
+                    fault: Fault {
+                        end: end,
+                        number: number,
+                        start: at,
+                    },
+                    kind: 0,
+                };
+            }
+            let span = Span::pack(doc, at, end);
+            let place = cur.lexemes;
+            list::put(kinds, words, place, kind, span);
+            if token::opens(kind) {
+                let depth = cur.depth;
+                list::put(skinds, swords, depth, kind, span);
+                cur = past_opener(cur, kind, end);
+                top = token::state_of(kind);
+            } else {
+                if token::closes(kind) {
+                    cur = past_closer(cur, kind, end);
+                    let depth = cur.depth;
+                    top = list::top_state(skinds, depth);
+                } else {
+                    cur = past_other(cur, kind, end);
+                }
+            }
+        }
+    }
+    Ran {
+        cur: cur,
+        fault: faultless(),
+        kind: kind,
+    }
+}
+
 // Lex an input document into tokens: kind codes to `kinds`, the two words of each span to `words`. What is open goes to a stack, kind codes to `skinds` and span words to
 // `swords`.
 pub fn lex(
@@ -228,12 +304,11 @@ pub fn lex(
 ) -> Lexed
     ensures { λ r. ⌜ Lexes doc (now (text .entry)) (now (kinds .entry)) (now (words .entry)) (now (skinds .entry)) (now (swords .entry)) (lexedMeant r) (now (kinds .exit)) (now (words .exit)) (now (skinds .exit)) (now (swords .exit)) ⌝ }
 {
-    let mut cur = Cursor {
+    let start = Cursor {
         at: 0,
         depth: 0,
         lexemes: 0,
-        steps: 0,
-        kept: 0,
+        spaces: 0,
         dropped: 0,
         deepest: 0,
     };
@@ -245,7 +320,7 @@ pub fn lex(
                 number: 2,
                 start: 0,
             },
-            cur,
+            start,
             swords,
         );
     }
@@ -258,40 +333,15 @@ pub fn lex(
                 number: 1,
                 start: bad,
             },
-            cur,
+            start,
             swords,
         );
     }
-    let places = list::places(kinds, words);
-    let stack = list::places(skinds, swords);
-    let table = token::table();
-    while cur.at < text.len() {
-        let at = cur.at;
-        let depth = cur.depth;
-        let top = list::top_state(skinds, depth);
-        let answer = next::next(&table, text, at, top);
-        let Step::Found(lexeme) = answer else {
-            return stopped(doc, fault_of(answer, at), cur, swords);
-        };
-        let end = lexeme.end;
-        let found = lexeme.token;
-        let kind = token::code(found);
-        let opener = opens(kind);
-        let number = full(kind, opener, cur, stack, places);
-        if number != 0 {
-            return stopped(
-                doc,
-                Fault {
-                    end: end,
-                    number: number,
-                    start: at,
-                },
-                cur,
-                swords,
-            );
-        }
-        write(doc, cur, kind, opener, end, kinds, words, skinds, swords);
-        cur = advance(cur, kind, opener, end);
+    let ran = run(doc, text, start, text.len(), kinds, words, skinds, swords);
+    let cur = ran.cur;
+    let fault = ran.fault;
+    if fault.number != 0 {
+        return stopped(doc, fault, cur, swords);
     }
     report_unclosed_delimiters(doc, cur, skinds, swords)
 }

@@ -23,10 +23,10 @@ ghost use Rattle.lexer.specs.Outcome.{lexemeTo, refusedAt, stepMeant};
 use source::Refusal;
 use token::Token;
 
-// What a step found: its token, and where it ends. `end` comes first here and in a fault, so that both cases of a step share its place in memory.
+// What a step found: where it ends, and its token's kind code. `end` comes first here and in a fault, so that both cases of a step share its place in memory.
 pub struct Lexeme {
     pub end: usize,
-    pub token: Token,
+    pub kind: u8,
 }
 
 // Why a step was refused, and its span.
@@ -41,15 +41,21 @@ pub enum Step {
     Refused(Fault),
 }
 
-// Where the lexer stands, and what it has counted.
+// Where the lexer stands, and what it has counted. Steps are lexemes and Spaces; the bytes that were not dropped are kept.
 pub struct Cursor {
     pub at: usize,
     pub depth: usize,
     pub lexemes: usize,
-    pub steps: usize,
-    pub kept: usize,
+    pub spaces: usize,
     pub dropped: usize,
     pub deepest: usize,
+}
+
+// Where steps came to: the fault that ended them, its number 0 where there was none, and the last lexeme's kind.
+pub struct Ran {
+    pub cur: Cursor,
+    pub fault: Fault,
+    pub kind: u8,
 }
 
 pub enum Answer {
@@ -67,12 +73,14 @@ pub struct Lexed {
     pub deepest: usize,
 }
 
-pub(crate) fn found(end: usize, token: Token) -> Step
+// The kind code is given beside the token, so that no step has to look it up.
+pub(crate) fn found(end: usize, token: Token, kind: u8) -> Step
+    requires { ⌜ kind ≡ codeOf token ⌝ }
     ensures { λ r. ⌜ stepMeant r ≡ lexemeTo (codeOf token) end ⌝ }
 {
     Step::Found(Lexeme {
         end: end,
-        token: token,
+        kind: kind,
     })
 }
 

@@ -36,11 +36,13 @@ fn open_format(text: &[u8], at: usize) -> Step
         return found(
             at + 4,
             Token::QuoteOpen(StringPrefix::Format, QuoteStyle::Triple),
+            8,
         );
     }
     found(
         at + 2,
         Token::QuoteOpen(StringPrefix::Format, QuoteStyle::Double),
+        7,
     )
 }
 

@@ -35,14 +35,14 @@ fn exponent_at(text: &[u8], at: usize) -> Step
 {
     let e = scan::byte_at(text, at);
     if !((e == b'e') | (e == b'E')) {
-        return found(at, Token::NumDecimal);
+        return found(at, Token::NumDecimal, 18);
     }
     let m = sign_end(text, at + 1);
     let d = scan::byte_at(text, m);
     if !scan::is_digit(d) {
         return refused(17, m, m);
     }
-    found(scan::digits_end(text, m), Token::NumDecimal)
+    found(scan::digits_end(text, m), Token::NumDecimal, 18)
 }
 
 // Optionally a dot followed by one or more digits ("fraction" in the json spec).
@@ -52,13 +52,13 @@ fn fraction_at(text: &[u8], at: usize) -> Step
 {
     let p = scan::byte_at(text, at);
     if p != b'.' {
-        return found(at, Token::NumDecimal);
+        return found(at, Token::NumDecimal, 18);
     }
     let d = scan::byte_at(text, at + 1);
     if !scan::is_digit(d) {
         return refused(16, at, at + 1);
     }
-    found(scan::digits_end(text, at + 1), Token::NumDecimal)
+    found(scan::digits_end(text, at + 1), Token::NumDecimal, 18)
 }
 
 // A 0, or a non-zero followed by more digits and underscores.
@@ -81,7 +81,7 @@ fn binary_at(text: &[u8], at: usize) -> Step
     if scan::run_end(text, at + 2, Class::Underscore) == end {
         return refused(14, at, end);
     }
-    found(end, Token::NumBinary)
+    found(end, Token::NumBinary, 17)
 }
 
 // After `0x`, the same.
@@ -93,7 +93,7 @@ fn hexadecimal_at(text: &[u8], at: usize) -> Step
     if scan::run_end(text, at + 2, Class::Underscore) == end {
         return refused(15, at, end);
     }
-    found(end, Token::NumHexadecimal)
+    found(end, Token::NumHexadecimal, 16)
 }
 
 // A number, where a digit stands.

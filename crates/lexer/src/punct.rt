@@ -31,13 +31,13 @@ pub(crate) fn innermost_code(top: Opened) -> u8
 }
 
 // A closing delimiter: verify that it is the right one, whose opener has the code `due`.
-fn pop_delimiter(at: usize, top: Opened, due: u8, token: Token) -> Step
-    requires { ⌜ at < 2 ^ 48 ⌝ }
+fn pop_delimiter(at: usize, top: Opened, due: u8, token: Token, kind: u8) -> Step
+    requires { ⌜ (at < 2 ^ 48) × (kind ≡ codeOf token) ⌝ }
     ensures { λ r. ⌜ stepMeant r ≡ outcome at (closer (innermostOf top) due (codeOf token)) ⌝ }
 {
     let k = innermost_code(top);
     if k == due {
-        return found(at + 1, token);
+        return found(at + 1, token, kind);
     }
     if k == 0 {
         return refused(23, at, at + 1);
@@ -51,9 +51,9 @@ fn close_brace(at: usize, top: Opened) -> Step
     ensures { λ r. ⌜ stepMeant r ≡ outcome at (cond (eqb (innermostOf top) HoleOpen) (foundRule HoleClose 1) (closer (innermostOf top) LBrace RBrace)) ⌝ }
 {
     if innermost_code(top) == 14 {
-        return found(at + 1, Token::HoleClose);
+        return found(at + 1, Token::HoleClose, 15);
     }
-    pop_delimiter(at, top, 37, Token::RBrace)
+    pop_delimiter(at, top, 37, Token::RBrace, 38)
 }
 
 // `"`, or `"""` where two more quotes follow.
@@ -65,11 +65,13 @@ fn open_quote(text: &[u8], at: usize) -> Step
         return found(
             at + 3,
             Token::QuoteOpen(StringPrefix::None, QuoteStyle::Triple),
+            6,
         );
     }
     found(
         at + 1,
         Token::QuoteOpen(StringPrefix::None, QuoteStyle::Double),
+        5,
     )
 }
 
@@ -79,23 +81,31 @@ fn dots(text: &[u8], at: usize, next: u8) -> Step
     ensures { λ r. ⌜ stepMeant r ≡ outcome at (cond (is "." next && begins "." (drop (at + 2) (now (text .entry)))) (foundRule DotDotDot 3) (cond (is "." next) (foundRule DotDot 2) (foundRule Dot 1))) ⌝ }
 {
     if next != b'.' {
-        return found(at + 1, Token::Dot);
+        return found(at + 1, Token::Dot, 53);
     }
     if scan::byte_at(text, at + 2) == b'.' {
-        return found(at + 3, Token::DotDotDot);
+        return found(at + 3, Token::DotDotDot, 55);
     }
-    found(at + 2, Token::DotDot)
+    found(at + 2, Token::DotDot, 54)
 }
 
 // One byte of punctuation, or two where `second` follows it.
-fn one_or_two(at: usize, next: u8, second: u8, two: Token, one: Token) -> Step
-    requires { ⌜ at < 2 ^ 48 ⌝ }
+fn one_or_two(
+    at: usize,
+    next: u8,
+    second: u8,
+    two: Token,
+    kindtwo: u8,
+    one: Token,
+    kindone: u8,
+) -> Step
+    requires { ⌜ (at < 2 ^ 48) × (kindtwo ≡ codeOf two) × (kindone ≡ codeOf one) ⌝ }
     ensures { λ r. ⌜ stepMeant r ≡ outcome at (cond (eqb next second) (foundRule (codeOf two) 2) (foundRule (codeOf one) 1)) ⌝ }
 {
     if next == second {
-        return found(at + 2, two);
+        return found(at + 2, two, kindtwo);
     }
-    found(at + 1, one)
+    found(at + 1, one, kindone)
 }
 
 // `=`, `==` or `=>`.
@@ -104,9 +114,9 @@ fn equals(at: usize, next: u8) -> Step
     ensures { λ r. ⌜ stepMeant r ≡ outcome at (cond (is "=" next) (foundRule Eq2 2) (cond (is ">" next) (foundRule FatArrow 2) (foundRule Eq1 1))) ⌝ }
 {
     if next == b'=' {
-        return found(at + 2, Token::Eq2);
+        return found(at + 2, Token::Eq2, 43);
     }
-    one_or_two(at, next, b'>', Token::FatArrow, Token::Eq1)
+    one_or_two(at, next, b'>', Token::FatArrow, 46, Token::Eq1, 47)
 }
 
 // `//` and what follows it to before the line end, or `/`.
@@ -115,9 +125,9 @@ fn slash(text: &[u8], at: usize, next: u8) -> Step
     ensures { λ r. ⌜ stepMeant r ≡ outcome at (cond (is "/" next) (foundRule LineComment (run isNotLF (drop at (now (text .entry))))) (foundRule Slash 1)) ⌝ }
 {
     if next == b'/' {
-        return found(scan::line_end(text, at), Token::LineComment);
+        return found(scan::line_end(text, at), Token::LineComment, 3);
     }
-    found(at + 1, Token::Slash)
+    found(at + 1, Token::Slash, 56)
 }
 
 // `#!` and what follows it to before the line end. Comments are written with '//', not with '#'.
@@ -126,7 +136,7 @@ fn hash(text: &[u8], at: usize, next: u8) -> Step
     ensures { λ r. ⌜ stepMeant r ≡ outcome at (cond (is "!" next) (foundRule Shebang (run isNotLF (drop at (now (text .entry))))) (stop LoneHash 0 1)) ⌝ }
 {
     if next == b'!' {
-        return found(scan::line_end(text, at), Token::Shebang);
+        return found(scan::line_end(text, at), Token::Shebang, 2);
     }
     refused(13, at, at + 1)
 }
@@ -138,24 +148,24 @@ pub(crate) fn lex_in_punct(text: &[u8], at: usize, top: Opened) -> Step
 {
     let next = scan::byte_at(text, at + 1);
     match text[at] {
-        b'(' => found(at + 1, Token::LParen),
-        b'[' => found(at + 1, Token::LBracket),
-        b'{' => found(at + 1, Token::LBrace),
-        b'*' => found(at + 1, Token::Star),
-        b'+' => found(at + 1, Token::Plus),
-        b',' => found(at + 1, Token::Comma),
-        b':' => found(at + 1, Token::Colon),
-        b';' => found(at + 1, Token::Semicolon),
-        b'|' => found(at + 1, Token::Pipe),
-        b')' => pop_delimiter(at, top, 33, Token::RParen),
-        b']' => pop_delimiter(at, top, 35, Token::RBracket),
+        b'(' => found(at + 1, Token::LParen, 33),
+        b'[' => found(at + 1, Token::LBracket, 35),
+        b'{' => found(at + 1, Token::LBrace, 37),
+        b'*' => found(at + 1, Token::Star, 49),
+        b'+' => found(at + 1, Token::Plus, 50),
+        b',' => found(at + 1, Token::Comma, 51),
+        b':' => found(at + 1, Token::Colon, 57),
+        b';' => found(at + 1, Token::Semicolon, 58),
+        b'|' => found(at + 1, Token::Pipe, 59),
+        b')' => pop_delimiter(at, top, 33, Token::RParen, 34),
+        b']' => pop_delimiter(at, top, 35, Token::RBracket, 36),
         b'}' => close_brace(at, top),
         b'"' => open_quote(text, at),
-        b'<' => one_or_two(at, next, b'=', Token::LtEq, Token::Lt),
-        b'>' => one_or_two(at, next, b'=', Token::GtEq, Token::Gt),
+        b'<' => one_or_two(at, next, b'=', Token::LtEq, 41, Token::Lt, 39),
+        b'>' => one_or_two(at, next, b'=', Token::GtEq, 42, Token::Gt, 40),
         b'=' => equals(at, next),
-        b'!' => one_or_two(at, next, b'=', Token::Neq, Token::Bang),
-        b'-' => one_or_two(at, next, b'>', Token::ThinArrow, Token::Minus),
+        b'!' => one_or_two(at, next, b'=', Token::Neq, 44, Token::Bang, 48),
+        b'-' => one_or_two(at, next, b'>', Token::ThinArrow, 45, Token::Minus, 52),
         b'.' => dots(text, at, next),
         b'/' => slash(text, at, next),
         b'#' => hash(text, at, next),

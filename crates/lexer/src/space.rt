@@ -16,7 +16,7 @@ pub(crate) fn lex_in_space(text: &[u8], at: usize) -> Step
     let lines = run.lines;
     let end = run.end;
     if 2 <= lines {
-        return found(end, Token::Blank);
+        return found(end, Token::Blank, 1);
     }
-    found(end, Token::Space)
+    found(end, Token::Space, 0)
 }

@@ -23,7 +23,7 @@ fn unicode_delim(text: &[u8], at: usize) -> Step
 {
     let end = scan::run_end(text, at + 3, Class::Hex);
     if scan::byte_at(text, end) == b'}' {
-        return found(end + 1, Token::Escape(Escape::UnicodeDelim));
+        return found(end + 1, Token::Escape(Escape::UnicodeDelim), 13);
     }
     refused(18, end, end)
 }
@@ -35,7 +35,7 @@ fn unicode_four(text: &[u8], at: usize) -> Step
 {
     let end = scan::run_end(text, at + 2, Class::Hex);
     if at + 6 <= end {
-        return found(at + 6, Token::Escape(Escape::Unicode4));
+        return found(at + 6, Token::Escape(Escape::Unicode4), 12);
     }
     refused(19, at, end)
 }
@@ -55,7 +55,7 @@ fn single_escape(text: &[u8], at: usize) -> Step
     if 127 < b {
         return refused(22, at, scan::run_end(text, at + 2, Class::Tail));
     }
-    found(at + 2, Token::Escape(Escape::Single))
+    found(at + 2, Token::Escape(Escape::Single), 11)
 }
 
 // An escape sequence, where a `\` stands.
@@ -101,12 +101,14 @@ pub(crate) fn lex_in_string(text: &[u8], at: usize, stop: u8, triple: bool) -> S
     if a == b'\\' {
         return lex_in_escape(text, at);
     }
-    let quote = a == b'"';
-    if quote & closes(text, at, triple) {
-        return found(at + quote_length(triple), Token::QuoteClose);
+    if a == b'"' {
+        if closes(text, at, triple) {
+            return found(at + quote_length(triple), Token::QuoteClose, 9);
+        }
+    } else {
+        if a == stop {
+            return found(at + 1, Token::HoleOpen, 14);
+        }
     }
-    if !quote & (a == stop) {
-        return found(at + 1, Token::HoleOpen);
-    }
-    found(scan::inner_end(text, at + 1, stop), Token::StringInner)
+    found(scan::inner_end(text, at + 1, stop), Token::StringInner, 10)
 }

@@ -5,7 +5,6 @@ use mathlib.Core.Option.{Option, none, some}
 use lib.Dec.{eqb}
 use Rattle.rules.specs.Spans.{spanOf, accepted, refused}
 use Rattle.rules.specs.Lexing.{Lexed as LexedRule}
-use Rattle.lexer.specs.declared.Lexed.{Lexed}
 use Rattle.rcl.specs.declared.LexedWords.{LexedWords}
 
 -- an offset, or all ones where there is none
@@ -25,19 +24,27 @@ wordsMeant w = record {
   deepest = w .deepest;
 }
 
--- the counts of a result, with these words for its refusal
-abbrev pub wordsOf : Lexed → (refused number low high noted notelow notehigh : ℕ) → LexedWords
-wordsOf r a b c d e f g = record {
-  refused = a;
-  number = b;
-  low = c;
-  high = d;
-  noted = e;
-  notelow = f;
-  notehigh = g;
-  lexemes = r .lexemes;
-  steps = r .steps;
-  kept = r .kept;
-  dropped = r .dropped;
-  deepest = r .deepest;
+-- What words mean leaves some of them free: a number beside an acceptance, or which number other than 0 says yes. In the canonical form, which every exported result has, yes is 1 and what is not said is 0.
+-- A word that is said where a flag is set, and one that is said where it is not:
+abbrev pub ifSet : (flag word : ℕ) → ℕ
+ifSet flag word = cond (eqb flag 0) 0 word
+
+abbrev pub ifClear : (flag word : ℕ) → ℕ
+ifClear flag word = cond (eqb flag 0) word 0
+
+-- the canonical form of a result of lexing; its counts are always said
+abbrev pub canonicalLexed : LexedWords → LexedWords
+canonicalLexed w = record {
+  refused = ifSet (w .refused) 1;
+  number = ifSet (w .refused) (w .number);
+  low = ifSet (w .refused) (w .low);
+  high = ifSet (w .refused) (w .high);
+  noted = ifSet (w .refused) (ifSet (w .noted) 1);
+  notelow = ifSet (w .refused) (ifSet (w .noted) (w .notelow));
+  notehigh = ifSet (w .refused) (ifSet (w .noted) (w .notehigh));
+  lexemes = w .lexemes;
+  steps = w .steps;
+  kept = w .kept;
+  dropped = w .dropped;
+  deepest = w .deepest;
 }

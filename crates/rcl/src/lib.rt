@@ -19,7 +19,7 @@ ghost use mathlib.Core.Path.{_≡_};
 ghost use Rattle.rules.specs.Utf8.{firstBad};
 ghost use Rattle.rules.specs.Lexing.{Lexes};
 ghost use Rattle.lexer.specs.Results.{lexedMeant};
-ghost use Rattle.rcl.specs.Words.{offsetOrAll, wordsOf, wordsMeant};
+ghost use Rattle.rcl.specs.Words.{offsetOrAll, wordsMeant, canonicalLexed};
 use lexer::Answer;
 use lexer::Lexed;
 use source::Note;
@@ -127,11 +127,12 @@ pub struct ValuedWords {
     pub parts: u64,
 }
 
-// A result with no refusal yet, by its counts.
-fn counted(r: Lexed) -> LexedWords
-    ensures { λ w. ⌜ w ≡ wordsOf r 0 0 0 0 0 0 0 ⌝ }
+// A result in words.
+pub(crate) fn in_words(r: Lexed) -> LexedWords
+    ensures { λ w. ⌜ wordsMeant w ≡ lexedMeant r ⌝ }
+    ensures { λ w. ⌜ w ≡ canonicalLexed w ⌝ }
 {
-    LexedWords {
+    let mut w = LexedWords {
         refused: 0,
         number: 0,
         low: 0,
@@ -144,14 +145,7 @@ fn counted(r: Lexed) -> LexedWords
         kept: r.kept as u64,
         dropped: r.dropped as u64,
         deepest: r.deepest as u64,
-    }
-}
-
-// A result in words.
-pub(crate) fn in_words(r: Lexed) -> LexedWords
-    ensures { λ w. ⌜ wordsMeant w ≡ lexedMeant r ⌝ }
-{
-    let mut w = counted(r);
+    };
     let answer = r.answer;
     let Answer::Refused(refusal) = answer else {
         return w;
@@ -182,6 +176,7 @@ pub extern "C" fn rcl_lex(
     swords: &mut [u64],
 ) -> LexedWords
     ensures { λ r. ⌜ Lexes doc (now (text .entry)) (now (kinds .entry)) (now (words .entry)) (now (skinds .entry)) (now (swords .entry)) (wordsMeant r) (now (kinds .exit)) (now (words .exit)) (now (skinds .exit)) (now (swords .exit)) ⌝ }
+    ensures { λ r. ⌜ r ≡ canonicalLexed r ⌝ }
 {
     let r = lexer::lex(doc, text, kinds, words, skinds, swords);
     in_words(r)

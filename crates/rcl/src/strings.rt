@@ -9,7 +9,7 @@ ghost use Rattle.rules.specs.Value.{inText, inOutput, Values};
 ghost use Rattle.source.specs.Meaning.{refusalMeant};
 ghost use Rattle.cst.specs.Meaning.{closerMeant};
 ghost use Rattle.value.specs.Meaning.{whereMeant, answerMeant as valueMeant};
-ghost use Rattle.rcl.specs.Strings.{answerMeant, partedMeant, valuedMeant, refusalIn, withoutNote};
+ghost use Rattle.rcl.specs.Strings.{answerMeant, canonicalAnswer, partedMeant, canonicalParted, valuedMeant, canonicalValued, PartedAs, ValuedAs, refusalIn, withoutNote};
 use crate::AnswerWords;
 use crate::PartedWords;
 use crate::ValuedWords;
@@ -40,6 +40,7 @@ pub extern "C" fn rcl_is_keyword(bytes: &[u8]) -> bool
 
 pub(crate) fn answered(count: u64) -> AnswerWords
     ensures { λ r. ⌜ answerMeant r ≡ given count ⌝ }
+    ensures { λ r. ⌜ r ≡ canonicalAnswer r ⌝ }
 {
     AnswerWords {
         refused: 0,
@@ -52,6 +53,7 @@ pub(crate) fn answered(count: u64) -> AnswerWords
 
 pub(crate) fn not_answered(refusal: Refusal) -> AnswerWords
     ensures { λ r. ⌜ answerMeant r ≡ refusalIn (refusalMeant refusal) ⌝ }
+    ensures { λ r. ⌜ r ≡ canonicalAnswer r ⌝ }
 {
     let at = refusal.at;
     AnswerWords {
@@ -67,6 +69,7 @@ pub(crate) fn not_answered(refusal: Refusal) -> AnswerWords
 #[no_mangle]
 pub extern "C" fn rcl_scalar_value(text: &[u8], low: u64, high: u64, kind: u8) -> AnswerWords
     ensures { λ r. ⌜ answerMeant r ≡ escapeScalar (now (text .entry)) (spanOf low high) kind ⌝ }
+    ensures { λ r. ⌜ r ≡ canonicalAnswer r ⌝ }
 {
     let span = Span {
         low: low,
@@ -90,6 +93,7 @@ pub extern "C" fn rcl_unescape_into(
     position: usize,
 ) -> AnswerWords
     ensures { λ r. ⌜ Unescapes (now (text .entry)) (spanOf low high) kind (now (output .entry)) position (answerMeant r) (now (output .exit)) ⌝ }
+    ensures { λ r. ⌜ r ≡ canonicalAnswer r ⌝ }
 {
     let span = Span {
         low: low,
@@ -111,6 +115,7 @@ pub extern "C" fn rcl_count_common_leading_spaces(
     count: usize,
 ) -> AnswerWords
     ensures { λ r. ⌜ answerMeant r ≡ indentCall (now (text .entry)) (now (kinds .entry)) (now (words .entry)) count ⌝ }
+    ensures { λ r. ⌜ r ≡ canonicalAnswer r ⌝ }
 {
     let answer = string::count_common_leading_spaces(text, kinds, words, count);
     match answer {
@@ -120,7 +125,7 @@ pub extern "C" fn rcl_count_common_leading_spaces(
 }
 
 fn parted(closer: Closer, parts: usize) -> PartedWords
-    ensures { λ r. ⌜ (partedMeant r ≡ withoutNote (closerMeant closer)) × (r .parts ≡ parts) ⌝ }
+    ensures { λ r. ⌜ PartedAs (withoutNote (closerMeant closer)) parts r ⌝ }
 {
     match closer {
         Closer::At(place) => PartedWords {
@@ -156,6 +161,7 @@ pub extern "C" fn rcl_parts(
     pwords: &mut [u64],
 ) -> PartedWords
     ensures { λ r. ⌜ ListsParts (now (kinds .entry)) (now (words .entry)) count place (now (pkinds .entry)) (now (pwords .entry)) (partedMeant r) (r .parts) (now (pkinds .exit)) (now (pwords .exit)) ⌝ }
+    ensures { λ r. ⌜ r ≡ canonicalParted r ⌝ }
 {
     let r = cst::parts(kinds, words, count, place, pkinds, pwords);
     let closer = r.answer;
@@ -163,7 +169,7 @@ pub extern "C" fn rcl_parts(
 }
 
 fn in_text(start: usize, end: usize, parts: usize) -> ValuedWords
-    ensures { λ r. ⌜ (valuedMeant r ≡ given (inText start end)) × (r .parts ≡ parts) ⌝ }
+    ensures { λ r. ⌜ ValuedAs (given (inText start end)) parts r ⌝ }
 {
     ValuedWords {
         refused: 0,
@@ -178,7 +184,7 @@ fn in_text(start: usize, end: usize, parts: usize) -> ValuedWords
 }
 
 fn in_output(start: usize, end: usize, parts: usize) -> ValuedWords
-    ensures { λ r. ⌜ (valuedMeant r ≡ given (inOutput start end)) × (r .parts ≡ parts) ⌝ }
+    ensures { λ r. ⌜ ValuedAs (given (inOutput start end)) parts r ⌝ }
 {
     ValuedWords {
         refused: 0,
@@ -193,7 +199,7 @@ fn in_output(start: usize, end: usize, parts: usize) -> ValuedWords
 }
 
 fn no_value(refusal: Refusal, parts: usize) -> ValuedWords
-    ensures { λ r. ⌜ (valuedMeant r ≡ refusalIn (refusalMeant refusal)) × (r .parts ≡ parts) ⌝ }
+    ensures { λ r. ⌜ ValuedAs (refusalIn (refusalMeant refusal)) parts r ⌝ }
 {
     let at = refusal.at;
     ValuedWords {
@@ -209,7 +215,7 @@ fn no_value(refusal: Refusal, parts: usize) -> ValuedWords
 }
 
 fn found(held: Where, parts: usize) -> ValuedWords
-    ensures { λ r. ⌜ (valuedMeant r ≡ given (whereMeant held)) × (r .parts ≡ parts) ⌝ }
+    ensures { λ r. ⌜ ValuedAs (given (whereMeant held)) parts r ⌝ }
 {
     match held {
         Where::Text(start, end) => in_text(start, end, parts),
@@ -218,7 +224,7 @@ fn found(held: Where, parts: usize) -> ValuedWords
 }
 
 fn valued(answer: Answer, parts: usize) -> ValuedWords
-    ensures { λ r. ⌜ (valuedMeant r ≡ withoutNote (valueMeant answer)) × (r .parts ≡ parts) ⌝ }
+    ensures { λ r. ⌜ ValuedAs (withoutNote (valueMeant answer)) parts r ⌝ }
 {
     match answer {
         Answer::Found(held) => found(held, parts),
@@ -240,6 +246,7 @@ pub extern "C" fn rcl_value(
     position: usize,
 ) -> ValuedWords
     ensures { λ r. ⌜ Values (now (text .entry)) (now (kinds .entry)) (now (words .entry)) count place (now (pkinds .entry)) (now (pwords .entry)) (now (output .entry)) position (valuedMeant r) (r .parts) (now (pkinds .exit)) (now (pwords .exit)) (now (output .exit)) ⌝ }
+    ensures { λ r. ⌜ r ≡ canonicalValued r ⌝ }
 {
     let r = value::value(
         text,

@@ -3,8 +3,8 @@ ghost use mathlib.Core.Path.{_≡_};
 ghost use Rattle.rules.specs.Tidy.{Tidies};
 ghost use Rattle.rules.specs.Value.{handCheck};
 ghost use Rattle.value.specs.Meaning.{whereMeant};
-ghost use Rattle.rcl.specs.Words.{wordsMeant};
-ghost use Rattle.rcl.specs.Strings.{answerMeant, heldIn, orZero};
+ghost use Rattle.rcl.specs.Words.{wordsMeant, canonicalLexed};
+ghost use Rattle.rcl.specs.Strings.{answerMeant, canonicalAnswer, heldIn, orZero};
 use crate::AnswerWords;
 use crate::TidiedWords;
 use crate::in_words;
@@ -24,6 +24,7 @@ pub extern "C" fn rcl_tidy(
     output: &mut [u8],
 ) -> TidiedWords
     ensures { λ r. ⌜ Tidies doc (now (text .entry)) (now (kinds .entry)) (now (words .entry)) (now (skinds .entry)) (now (swords .entry)) (now (output .entry)) (wordsMeant (r .lexed)) (r .written) (now (kinds .exit)) (now (words .exit)) (now (skinds .exit)) (now (swords .exit)) (now (output .exit)) ⌝ }
+    ensures { λ r. ⌜ r .lexed ≡ canonicalLexed (r .lexed) ⌝ }
 {
     let r = tidy::tidy(doc, text, kinds, words, skinds, swords, output);
     let lexed = r.lexed;
@@ -54,6 +55,7 @@ pub extern "C" fn rcl_hand_check(
     end: usize,
 ) -> AnswerWords
     ensures { λ r. ⌜ answerMeant r ≡ orZero (handCheck (now (text .entry)) (now (output .entry)) (heldIn which start end)) ⌝ }
+    ensures { λ r. ⌜ r ≡ canonicalAnswer r ⌝ }
 {
     let checked = hand::check(text, output, part(which, start, end));
     match checked {

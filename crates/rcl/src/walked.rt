@@ -1,17 +1,22 @@
 // The walker, and lexing with a tally.
 ghost use mathlib.Core.Path.{_≡_};
+ghost use mathlib.Core.Option.{none, some};
+ghost use Rattle.rules.specs.Spans.{given, refused};
 ghost use Rattle.rules.specs.Lexing.{Lexes};
 ghost use Rattle.rules.specs.Tally.{afterCall};
 ghost use Rattle.rules.specs.Walker.{opening};
-ghost use Rattle.source.specs.Meaning.{spanMeant, noteMeant};
+ghost use Rattle.source.specs.Meaning.{refusalMeant};
+ghost use Rattle.list.specs.Entries.{entryMeant};
 ghost use Rattle.walker.specs.Meaning.{keptMeant, answerMeant};
-ghost use Rattle.rcl.specs.Words.{wordsMeant};
-ghost use Rattle.rcl.specs.Walked.{keptIn, keptBy, withoutKeptNote, answerIn, SteppedAs, walkerBy, StepsTo, tallyIn, tallyBy};
+ghost use Rattle.rcl.specs.Words.{wordsMeant, canonicalLexed};
+ghost use Rattle.rcl.specs.Walked.{keptIn, keptBy, canonicalKept, withoutKeptNote, canonicalStepped, SteppedAs, walkerBy, StepsTo, tallyIn, tallyBy};
 use crate::CountedWords;
 use crate::KeptWords;
 use crate::SteppedWords;
 use crate::in_words;
+use list::Entry;
 use source::Note;
+use source::Refusal;
 use source::Span;
 use tally::Tally;
 use walker::Answer;
@@ -20,6 +25,7 @@ use walker::Stepped;
 
 fn kept_words(kept: Kept) -> KeptWords
     ensures { λ r. ⌜ keptIn r ≡ withoutKeptNote (keptMeant kept) ⌝ }
+    ensures { λ r. ⌜ r ≡ canonicalKept r ⌝ }
 {
     match kept {
         Kept::Nothing => KeptWords {
@@ -44,6 +50,7 @@ fn kept_words(kept: Kept) -> KeptWords
 #[no_mangle]
 pub extern "C" fn rcl_walker_open(doc: u32, text: &[u8]) -> KeptWords
     ensures { λ r. ⌜ keptIn r ≡ opening doc (now (text .entry)) .refusal ⌝ }
+    ensures { λ r. ⌜ r ≡ canonicalKept r ⌝ }
 {
     let kept = walker::opening_refusal(doc, text);
     kept_words(kept)
@@ -63,20 +70,48 @@ fn kept_by(kept: u64, number: u8, low: u64, high: u64) -> Kept
     Kept::Refused(source::refuse(number, at))
 }
 
-// A step's words with its position and depth, by its answer's.
-fn stepped(
-    answer: u64,
-    number: u64,
-    at: Span,
-    note: Note,
-    position: usize,
-    depth: usize,
-) -> SteppedWords
-    ensures { λ r. ⌜ SteppedAs (answerIn answer number (spanMeant at) (noteMeant note)) position depth r ⌝ }
+// A lexeme in words, and where the walker then stands.
+fn lexeme_words(entry: Entry, position: usize, depth: usize) -> SteppedWords
+    ensures { λ r. ⌜ SteppedAs (given (some (entryMeant entry))) position depth r ⌝ }
 {
+    let at = entry.at;
+    SteppedWords {
+        answer: 0,
+        number: entry.kind as u64,
+        low: at.low,
+        high: at.high,
+        noted: 0,
+        notelow: 0,
+        notehigh: 0,
+        position: position as u64,
+        depth: depth as u64,
+    }
+}
+
+fn ended_words(position: usize, depth: usize) -> SteppedWords
+    ensures { λ r. ⌜ SteppedAs (given none) position depth r ⌝ }
+{
+    SteppedWords {
+        answer: 1,
+        number: 0,
+        low: 0,
+        high: 0,
+        noted: 0,
+        notelow: 0,
+        notehigh: 0,
+        position: position as u64,
+        depth: depth as u64,
+    }
+}
+
+fn refusal_words(refusal: Refusal, position: usize, depth: usize) -> SteppedWords
+    ensures { λ r. ⌜ SteppedAs (refused (refusalMeant refusal)) position depth r ⌝ }
+{
+    let at = refusal.at;
+    let note = refusal.note;
     let mut w = SteppedWords {
-        answer: answer,
-        number: number,
+        answer: 2,
+        number: refusal.number as u64,
         low: at.low,
         high: at.high,
         noted: 0,
@@ -102,19 +137,9 @@ fn step_words(r: Stepped) -> SteppedWords
     let position = r.position;
     let depth = r.depth;
     match answer {
-        Answer::Lexeme(entry) => stepped(
-            0,
-            entry.kind as u64,
-            entry.at,
-            Note::None,
-            position,
-            depth,
-        ),
-        Answer::Ended => stepped(1, 0, source::nowhere(), Note::None, position, depth),
-        Answer::Refused(refusal) => {
-            let note = refusal.note;
-            stepped(2, refusal.number as u64, refusal.at, note, position, depth)
-        }
+        Answer::Lexeme(entry) => lexeme_words(entry, position, depth),
+        Answer::Ended => ended_words(position, depth),
+        Answer::Refused(refusal) => refusal_words(refusal, position, depth),
     }
 }
 
@@ -133,6 +158,7 @@ pub extern "C" fn rcl_walker_step(
     swords: &mut [u64],
 ) -> SteppedWords
     ensures { λ r. ⌜ StepsTo (now (text .entry)) (walkerBy doc position depth (keptBy kept number low high)) (now (skinds .entry)) (now (swords .entry)) r (now (skinds .exit)) (now (swords .exit)) ⌝ }
+    ensures { λ r. ⌜ r ≡ canonicalStepped r ⌝ }
 {
     let before = kept_by(kept, number, low, high);
     let r = walker::step_at(doc, text, position, depth, before, skinds, swords);
@@ -154,6 +180,7 @@ pub extern "C" fn rcl_lex_tallied(
 ) -> CountedWords
     ensures { λ r. ⌜ Lexes doc (now (text .entry)) (now (kinds .entry)) (now (words .entry)) (now (skinds .entry)) (now (swords .entry)) (wordsMeant (r .lexed)) (now (kinds .exit)) (now (words .exit)) (now (skinds .exit)) (now (swords .exit)) ⌝ }
     ensures { λ r. ⌜ tallyIn r ≡ afterCall (tallyBy accepted refused steps) (wordsMeant (r .lexed)) ⌝ }
+    ensures { λ r. ⌜ r .lexed ≡ canonicalLexed (r .lexed) ⌝ }
 {
     let before = Tally {
         accepted: accepted,

@@ -7,7 +7,7 @@ use lib.ListN.{length, replicate}
 use Rattle.rules.specs.Text.{ascii}
 use Rattle.rules.specs.Refusals.{ControlByte, NoFractionDigit, NoExponentDigit, NoBinaryDigit, AnotherDue, UnclosedHole, NoDigits, ManyDigits}
 use Rattle.rules.specs.Spans.{Span, span, low, high, Answer, given, refused, refuse, Verdict, accepted}
-use Rattle.rules.specs.Kinds.{Ident, FormatDouble, QuoteClose, HoleOpen, HoleClose, NumDecimal, LParen, ThinArrow, Minus, Eq1, Semicolon}
+use Rattle.rules.specs.Kinds.{Ident, FormatDouble, QuoteClose, HoleOpen, HoleClose, NumDecimal, ThinArrow, Minus, Eq1, Semicolon}
 use Rattle.rules.specs.Lexing.{Lexed, Lexeme, lexeme, wordsOf, listing, lexing}
 use Rattle.rules.specs.Value.{Where, inOutput, valueCall, handed}
 use Rattle.rules.specs.Tidy.{respaced}

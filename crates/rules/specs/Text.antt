@@ -1,5 +1,5 @@
 -- Text is a list of bytes. How it is quoted here, and what is read off its front.
-use Prim.Native.Nat.{ℕ, suc, _+_}
+use Prim.Native.Nat.{ℕ, suc}
 use Prim.Native.Char.{Char, code}
 use Prim.Native.String.{String}
 use Prim.Native.String as S

@@ -1,19 +1,28 @@
 -- Laws of a scan that has come to a place: how it starts, goes on by a byte or a block, and ends; and the lines that a scan of whitespace counts.
-use Prim.Native.Nat.{ℕ, zero, suc, _+_, _-_, _≤_, _<_}
-use mathlib.Core.Bool.{Bool, true, false, cond, _&&_, false≢true}
+use Prim.Native.Nat.{ℕ, zero, suc, _+_, _-_, _≤_, _<_, min}
+use Prim.Native.Char.{code}
+use mathlib.Core.Bool.{Bool, true, false, cond, not, _&&_, _||_, false≢true}
 use mathlib.Core.List.{List, [], _∷_}
 use mathlib.Core.Path.{_≡_, refl, sym, _∙_}
-use native.Mathlib.Nat.{add-zero, not-suc-le-zero, le-of-suc-le-suc}
+use native.Mathlib.Nat.{add-zero, zero-add, not-suc-le-zero, le-of-suc-le-suc}
 use native.Mathlib.Decide.{decLt}
 use native.Mathlib.Numerals.{add-one}
 use native.Mathlib.Omega.{arith}
+use lib.Dec.{eqb, ltb}
 use lib.ListN.{length, drop, getD}
 use lib.Seq.{drop-cons, drop-drop}
-use borrow.Author.Tests.{eqb-true}
+use borrow.Author.Tests.{eqb-true, ltb-true, ne-eqb}
 use Rattle.rules.specs.Text.{is, run}
 use Rattle.rules.specs.Bytes.{isWhitespace}
 use Rattle.rules.proofs.Runs.{run-more, run-stop, run-done, run-wider, run-drop}
-use Rattle.scan.specs.Reach.{Reach, ReachIf, Stops, linesOf, MeasuredAs}
+use Rattle.scan.specs.Reach.{Reach, ReachIf, Stops, AloneIf, linesOf, MeasuredAs}
+
+-- of a block of `n` bytes the first `j` are read: `first` is the least place at which a byte fails, and `n` where none does
+pub record Least (p : ℕ → Bool) (t : List ℕ) (at n j first : ℕ) : Type 0 where
+  pub most : first ≤ n
+  pub early : first < n → first < j
+  pub reach : Reach p t at (at + min first j)
+  pub fails : first < n → p (getD t (at + first) 0) ≡ false
 
 module _ {p : ℕ → Bool} {t : List ℕ} where
   -- a scan starts where it is
@@ -40,23 +49,11 @@ module _ {p : ℕ → Bool} {t : List ℕ} where
   pub done : {at i : ℕ} → length t ≤ i → Reach p t at i → i ≡ at + run p (drop at t)
   done {i = i} h x = over (run-done p t i h) x
 
-  -- a scan up to an end stops where the byte fails
-  pub stops : {at end i : ℕ} → p (getD t i 0) ≡ false → i ≤ end → Reach p t at i → Stops p t at end i
-  stops {i = i} e h x = record { reach = x; most = h; ended = λ k. run-stop p t i e }
-
-  -- a scan up to an end stops at the end
-  pub stops-there : {at end i : ℕ} → end ≤ i → i ≤ end → Reach p t at i → Stops p t at end i
-  stops-there g h x = record { reach = x; most = h; ended = λ k. absurd (omega arith) }
-
   -- a scan up to an end that has come to it
   pub reached : {at end i : ℕ} → end ≤ i → Stops p t at end i → Reach p t at end
   reached {end = end} {i} h x =
       let e : end ≡ i = omega arith in
       rw e (x .reach)
-
-  -- a scan up to the text's end: the run is over
-  pub ended : {at i : ℕ} → Stops p t at (length t) i → run p (drop i t) ≡ 0
-  ended {i = i} x = elim (decLt i (length t)) [ yes h ↦ x .ended h | no k ↦ run-done p t i (omega arith) ]
 
   -- a block of which nothing is read yet
   pub block-start : {at : ℕ} → ReachIf true p t at (at + 0)
@@ -73,6 +70,72 @@ module _ {p : ℕ → Bool} {t : List ℕ} where
   -- all of a block
   pub block-done : {at j : ℕ} {x : Bool} (n : ℕ) → j ≡ n → ReachIf x p t at (at + j) → ReachIf x p t at (at + n)
   block-done n e f = rw (← e) f
+
+  -- a block of which nothing is read yet has no byte that fails
+  pub least-none : {at n : ℕ} → Least p t at n 0 n
+  least-none {at} {n} =
+      let none : at + min n 0 ≡ at = omega arith in
+      record {
+        most = omega arith;
+        early = λ k. absurd (omega arith);
+        reach = rw none stay;
+        fails = λ k. absurd (omega arith);
+      }
+
+  -- one more byte of a block: the least place is now this one, if the byte fails and none before did
+  pub least-more : {at n j first : ℕ} (b : Bool) → at + j < length t → j < n → not b ≡ p (getD t (at + j) 0) → Least p t at n j first → Least p t at n (j + 1) (min (cond b j n) first)
+  least-more {at} {n} {j} {first} true h k e x = elim (decLt first j) [
+    | yes l ↦
+        let old : min j first ≡ first = omega arith in
+        let here : at + min first (j + 1) ≡ at + min first j = omega arith in
+        rw old (record {
+          most = x .most;
+          early = λ m. omega arith;
+          reach = rw here (x .reach);
+          fails = x .fails;
+        })
+    | no l ↦
+        let new : min j first ≡ j = omega arith in
+        let here : at + min j (j + 1) ≡ at + min first j = omega arith in
+        rw new (record {
+          most = omega arith;
+          early = λ m. omega arith;
+          reach = rw here (x .reach);
+          fails = λ m. sym e;
+        })
+  ]
+  least-more {at} {n} {j} {first} false h k e x =
+      let old : min n first ≡ first = omega (arith, x .most) in
+      rw old (elim (decLt first j) [
+        | yes l ↦
+            let here : at + min first (j + 1) ≡ at + min first j = omega arith in
+            record {
+              most = x .most;
+              early = λ m. omega arith;
+              reach = rw here (x .reach);
+              fails = x .fails;
+            }
+        | no l ↦
+            let come : at + min first j ≡ at + j = omega arith in
+            let last : n ≤ first = elim (decLt first n) [ yes m ↦ absurd (omega (arith, x .early m)) | no m ↦ omega arith ] in
+            let next : at + min first (j + 1) ≡ at + j + 1 = omega arith in
+            record {
+              most = x .most;
+              early = λ m. absurd (omega arith);
+              reach = rw next (more h (sym e) (rw come at (x .reach)));
+              fails = x .fails;
+            }
+      ])
+
+  -- all of a block is read: the scan stops at the least place
+  pub least-done : {at n j first : ℕ} → n ≤ j → Least p t at n j first → Stops p t at (at + n) (at + first)
+  least-done {at} {n} {j} {first} h x =
+      let here : at + first ≡ at + min first j = omega (arith, x .most) in
+      record {
+        reach = rw here (x .reach);
+        most = omega (arith, x .most);
+        ended = λ k. run-stop p t (at + first) (x .fails (omega arith));
+      }
 
   -- a scan of a class is a scan of a wider one
   pub wider : {q : ℕ → Bool} {at i : ℕ} → ((b : ℕ) → p b ≡ true → q b ≡ true) → Reach p t at i → Reach q t at i
@@ -125,6 +188,21 @@ space-white : (b : ℕ) → is " " b ≡ true → isWhitespace b ≡ true
 unfolding isWhitespace
 space-white b e = rw e
 
+-- a space and an LF are whitespace
+space-or-line : (b : ℕ) → is " " b || is "\n" b ≡ true → isWhitespace b ≡ true
+unfolding isWhitespace
+space-or-line b e = go (is " " b) (is "\t" b) (is "\n" b) (eqb b 0x0C) (is "\r" b) e
+  where
+    go : (s t n f r : Bool) → s || n ≡ true → s || t || n || f || r ≡ true
+    go true t n f r e = refl
+    go false true n f r e = refl
+    go false false n f r e = rw e
+
+-- no byte over a space is whitespace
+over-space : (b : ℕ) → 32 < b → isWhitespace b ≡ false
+unfolding isWhitespace
+over-space b h = rw (ne-eqb b (code " ") (λ e. omega arith), ne-eqb b (code "\t") (λ e. omega arith), ne-eqb b (code "\n") (λ e. omega arith), ne-eqb b 0x0C (λ e. omega arith), ne-eqb b (code "\r") (λ e. omega arith))
+
 -- whitespace measured up to `i`, with so many line ends
 pub record Passed (t : List ℕ) (at i lines : ℕ) : Type 0 where
   pub reach : Reach isWhitespace t at i
@@ -156,3 +234,20 @@ module _ {t : List ℕ} where
   -- the whitespace ends here at the text's end
   pub passed-done : {at i lines : ℕ} → length t ≤ i → Passed t at i lines → MeasuredAs t at (record { end = i; lines = lines })
   passed-done {i = i} h y = passed-over (run-done isWhitespace t i h) y
+
+  -- a byte of which nothing is said
+  pub alone-not : {at : ℕ} → AloneIf false t at
+  alone-not = record { inside = λ e. absurd (false≢true e); white = λ e. absurd (false≢true e); over = λ e. absurd (false≢true e) }
+
+  -- a space or an LF stands alone where the byte behind it is over a space
+  pub alone-if : {at : ℕ} → at < length t → is " " (getD t at 0) || is "\n" (getD t at 0) ≡ true → AloneIf (ltb 32 (getD t (at + 1) 0)) t at
+  alone-if {at} h e =
+      record {
+        inside = λ x. h;
+        white = λ x. space-or-line (getD t at 0) e;
+        over = λ x. over-space (getD t (at + 1) 0) (ltb-true 32 (getD t (at + 1) 0) x);
+      }
+
+  -- one byte alone is all of the whitespace
+  pub alone-measured : {at n : ℕ} {b : Bool} → b ≡ true → AloneIf b t at → n ≡ cond (is "\n" (getD t at 0)) 1 0 → MeasuredAs t at (record { end = at + 1; lines = n })
+  alone-measured {n = n} e x m = rw zero-add at (passed-stop (x .over e) (passed-more n (x .inside e) (x .white e) m stay passed-none))

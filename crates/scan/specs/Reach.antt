@@ -1,9 +1,9 @@
 -- A scan from `at` that has come to `i`: the run from `at` ends where the run from `i` ends. It has passed the text's end only where it started there.
 use Prim.Native.Nat.{ℕ, _+_, _≤_, _<_, max}
 use mathlib.Core.Path.{_≡_}
-use mathlib.Core.Bool.{Bool, true}
+use mathlib.Core.Bool.{Bool, true, false}
 use mathlib.Core.List.{List}
-use lib.ListN.{length, take, drop}
+use lib.ListN.{length, take, drop, getD}
 use Rattle.rules.specs.Text.{is, run, count}
 use Rattle.rules.specs.Bytes.{isWhitespace}
 use Rattle.scan.specs.declared.Measured.{Measured}
@@ -22,6 +22,12 @@ pub record Stops (p : ℕ → Bool) (t : List ℕ) (at end i : ℕ) : Type 0 whe
   pub reach : Reach p t at i
   pub most : i ≤ end
   pub ended : i < end → run p (drop i t) ≡ 0
+
+-- one byte of whitespace with none behind it, where a test says so
+pub record AloneIf (b : Bool) (t : List ℕ) (at : ℕ) : Type 0 where
+  pub inside : b ≡ true → at < length t
+  pub white : b ≡ true → isWhitespace (getD t at 0) ≡ true
+  pub over : b ≡ true → isWhitespace (getD t (at + 1) 0) ≡ false
 
 -- how many line ends the whitespace at a text's front has
 unfoldable pub linesOf : List ℕ → ℕ

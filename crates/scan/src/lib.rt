@@ -1,13 +1,13 @@
 // Runs of bytes: where the bytes that pass a test end. A position past the text's end is its own end.
 ghost use mathlib.Core.Path.{_≡_};
 ghost use mathlib.Core.Bool.{cond, not};
-ghost use Prim.Native.Nat.{_+_, _≤_};
+ghost use Prim.Native.Nat.{_+_, _≤_, min};
 ghost use lib.ListN.{length, drop, getD};
 ghost use Rattle.rules.specs.Text.{is, run};
 ghost use Rattle.rules.specs.Bytes.{isDigit, isHexDigit, isNotLF, isWhitespace};
 ghost use Rattle.rules.specs.Step.{isDigitOrUnderscore};
 ghost use Rattle.scan.specs.Classes.{passes, isInnerFor};
-ghost use Rattle.scan.specs.Reach.{Reach, ReachIf, Stops, MeasuredAs};
+ghost use Rattle.scan.specs.Reach.{Reach, ReachIf, Stops, AloneIf, MeasuredAs};
 
 // The runs that are read seldom, or are short.
 pub enum Class {
@@ -86,42 +86,45 @@ pub fn digits_end(text: &[u8], at: usize) -> usize
     i
 }
 
-// Whether 16 bytes have no line end: a loop without an exit, so that it is done in one go.
-fn line_block(text: &[u8], at: usize) -> bool
-    requires { ⌜ at + 16 ≤ length (now text) ⌝ }
-    ensures { λ r. ⌜ ReachIf r isNotLF (now (text .entry)) at (at + 16) ⌝ }
+// `place` where something was found there, else `none`.
+fn place_if(found: bool, place: u8, none: u8) -> u8
+    ensures { λ r. ⌜ r ≡ cond found place none ⌝ }
 {
-    let mut all = true;
-    let mut j = 0;
-    while j < 16 {
-        all = all & !(text[at + j] == b'\n');
+    if found {
+        return place;
+    }
+    none
+}
+
+fn least(a: u8, b: u8) -> u8
+    ensures { λ r. ⌜ r ≡ min a b ⌝ }
+{
+    if a < b {
+        return a;
+    }
+    b
+}
+
+// Where in 64 bytes the first LF stands, 64 where none does: a loop without an exit, so that it is done in one go. Its counts are bytes, so that as many of them are held at once as bytes of the text.
+fn line_first(text: &[u8], at: usize) -> usize
+    requires { ⌜ at + 64 ≤ length (now text) ⌝ }
+    ensures { λ r. ⌜ Stops isNotLF (now (text .entry)) at (at + 64) (at + r) ⌝ }
+{
+    let mut first = 64u8;
+    let mut j = 0u8;
+    while j < 64 {
+        let b = text[at + j as usize];
+        first = least(place_if(b == b'\n', j, 64), first);
         j += 1;
     }
-    all
+    first as usize
 }
 
-// Passes over blocks of 16 bytes without a line end.
-fn line_blocks(text: &[u8], at: usize) -> usize
-    requires { ⌜ at ≤ length (now text) ⌝ }
-    ensures { λ r. ⌜ Reach isNotLF (now (text .entry)) at r ⌝ }
-{
-    let n = text.len();
-    let mut i = at;
-    while 16 <= n - i {
-        if !line_block(text, i) {
-            return i;
-        }
-        i += 16;
-    }
-    i
-}
-
-// The end of a line, before its LF.
-fn line_end_from(text: &[u8], at: usize) -> usize
-    requires { ⌜ at ≤ length (now text) ⌝ }
+// The end of a line byte by byte: for the last bytes of a text.
+fn line_bytes(text: &[u8], at: usize) -> usize
     ensures { λ r. ⌜ r ≡ at + run isNotLF (drop at (now (text .entry))) ⌝ }
 {
-    let mut i = line_blocks(text, at);
+    let mut i = at;
     while i < text.len() {
         if text[i] == b'\n' {
             return i;
@@ -129,6 +132,23 @@ fn line_end_from(text: &[u8], at: usize) -> usize
         i += 1;
     }
     i
+}
+
+// The end of a line: blocks of 64 bytes until one has it.
+fn line_end_from(text: &[u8], at: usize) -> usize
+    requires { ⌜ at ≤ length (now text) ⌝ }
+    ensures { λ r. ⌜ r ≡ at + run isNotLF (drop at (now (text .entry))) ⌝ }
+{
+    let n = text.len();
+    let mut i = at;
+    while 64 <= n - i {
+        let first = line_first(text, i);
+        if first < 64 {
+            return i + first;
+        }
+        i += 64;
+    }
+    line_bytes(text, i)
 }
 
 // The end of a line, before its LF.
@@ -148,43 +168,27 @@ fn ends_inner(b: u8, stop: u8) -> bool
     (b == b'\\') | (b == b'"') | (b == b'\n') | (b == stop)
 }
 
-// Whether nothing in 16 bytes ends an inner part.
-fn inner_block(text: &[u8], at: usize, stop: u8) -> bool
-    requires { ⌜ at + 16 ≤ length (now text) ⌝ }
-    ensures { λ r. ⌜ ReachIf r (isInnerFor stop) (now (text .entry)) at (at + 16) ⌝ }
+// Where in 32 bytes the first one stands that ends an inner part, 32 where none does: a loop without an exit, like `line_first`. Most inner parts are short, so the block is too.
+fn inner_first(text: &[u8], at: usize, stop: u8) -> usize
+    requires { ⌜ at + 32 ≤ length (now text) ⌝ }
+    ensures { λ r. ⌜ Stops (isInnerFor stop) (now (text .entry)) at (at + 32) (at + r) ⌝ }
 {
-    let mut all = true;
-    let mut j = 0;
-    while j < 16 {
-        all = all & !ends_inner(text[at + j], stop);
+    let mut first = 32u8;
+    let mut j = 0u8;
+    while j < 32 {
+        let b = text[at + j as usize];
+        first = least(place_if(ends_inner(b, stop), j, 32), first);
         j += 1;
     }
-    all
+    first as usize
 }
 
-// Passes over blocks of 16 bytes in which nothing ends an inner part.
-fn inner_blocks(text: &[u8], at: usize, stop: u8) -> usize
-    requires { ⌜ at ≤ length (now text) ⌝ }
-    ensures { λ r. ⌜ Reach (isInnerFor stop) (now (text .entry)) at r ⌝ }
-{
-    let n = text.len();
-    let mut i = at;
-    while 16 <= n - i {
-        if !inner_block(text, i, stop) {
-            return i;
-        }
-        i += 16;
-    }
-    i
-}
-
-// Passes over bytes that go on an inner part, up to an end.
-fn inner_bytes(text: &[u8], at: usize, end: usize, stop: u8) -> usize
-    requires { ⌜ (at ≤ end) × (end ≤ length (now text)) ⌝ }
-    ensures { λ r. ⌜ Stops (isInnerFor stop) (now (text .entry)) at end r ⌝ }
+// Where an inner part ends, byte by byte: for the last bytes of a text.
+fn inner_bytes(text: &[u8], at: usize, stop: u8) -> usize
+    ensures { λ r. ⌜ r ≡ at + run (isInnerFor stop) (drop at (now (text .entry))) ⌝ }
 {
     let mut i = at;
-    while i < end {
+    while i < text.len() {
         if ends_inner(text[i], stop) {
             return i;
         }
@@ -193,30 +197,21 @@ fn inner_bytes(text: &[u8], at: usize, end: usize, stop: u8) -> usize
     i
 }
 
-// 16 bytes further, or the text's end.
-fn further(text: &[u8], at: usize) -> usize
-    requires { ⌜ at ≤ length (now text) ⌝ }
-    ensures { λ r. ⌜ (at ≤ r) × (r ≤ length (now (text .entry))) ⌝ }
-{
-    let n = text.len();
-    if n - at < 16 {
-        return n;
-    }
-    at + 16
-}
-
-// Where an inner part ends: most are short, so 16 bytes one by one come first, then blocks.
+// Where an inner part ends: blocks of 32 bytes until one has its end.
 fn inner_end_from(text: &[u8], at: usize, stop: u8) -> usize
     requires { ⌜ at ≤ length (now text) ⌝ }
     ensures { λ r. ⌜ r ≡ at + run (isInnerFor stop) (drop at (now (text .entry))) ⌝ }
 {
-    let near = further(text, at);
-    let first = inner_bytes(text, at, near, stop);
-    if first < near {
-        return first;
+    let n = text.len();
+    let mut i = at;
+    while 32 <= n - i {
+        let first = inner_first(text, i, stop);
+        if first < 32 {
+            return i + first;
+        }
+        i += 32;
     }
-    let far = inner_blocks(text, near, stop);
-    inner_bytes(text, far, text.len(), stop)
+    inner_bytes(text, i, stop)
 }
 
 // Where an inner part ends.
@@ -293,7 +288,7 @@ fn after_byte(text: &[u8], at: usize, likely: bool) -> usize
 }
 
 // Measures a run of whitespace and counts its line ends in one pass.
-pub fn whitespace(text: &[u8], at: usize) -> Measured
+fn whitespace_run(text: &[u8], at: usize) -> Measured
     ensures { λ r. ⌜ MeasuredAs (now (text .entry)) at r ⌝ }
 {
     let mut i = at;
@@ -314,4 +309,34 @@ pub fn whitespace(text: &[u8], at: usize) -> Measured
         end: i,
         lines: lines,
     }
+}
+
+// Whether the whitespace is one space or LF: the byte behind it is over 0x20.
+fn stands_alone(text: &[u8], at: usize) -> bool
+    ensures { λ r. ⌜ AloneIf r (now (text .entry)) at ⌝ }
+{
+    if text.len() <= at {
+        return false;
+    }
+    let b = text[at];
+    if !((b == b' ') | (b == b'\n')) {
+        return false;
+    }
+    if text.len() <= at + 1 {
+        return false;
+    }
+    b' ' < text[at + 1]
+}
+
+// Measures a run of whitespace. One space or LF alone is the most frequent, so it is tested first.
+pub fn whitespace(text: &[u8], at: usize) -> Measured
+    ensures { λ r. ⌜ MeasuredAs (now (text .entry)) at r ⌝ }
+{
+    if stands_alone(text, at) {
+        return Measured {
+            end: at + 1,
+            lines: line_of(text[at]),
+        };
+    }
+    whitespace_run(text, at)
 }

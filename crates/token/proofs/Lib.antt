@@ -1,2 +1,3 @@
 -- codes lead both ways
 pub mod Codes
+pub mod Unclosed

@@ -6,9 +6,10 @@
 // The kinds of lexemes, what can be open, and their codes; the class of each byte value.
 ghost use Prim.Native.Nat.{_<_};
 ghost use mathlib.Core.Path.{_≡_};
-ghost use mathlib.Core.Option.{Option};
 ghost use lib.ListN.{getD};
 ghost use Rattle.rules.specs.Bytes.{classOf};
+ghost use Rattle.rules.specs.Kinds.{isOpener, isCloser};
+ghost use Rattle.rules.specs.Lexing.{unclosed};
 ghost use Rattle.token.specs.Codes.{quoteCode, escapeCode, codeOf, stateCode, tokenMeant, stateMeant, ifKind, ifOpener};
 ghost use Rattle.token.specs.Table.{IsTable};
 
@@ -374,6 +375,34 @@ pub fn state_of(kind: u8) -> Opened
         35 => Opened::State(State::Bracket),
         37 => Opened::State(State::Brace),
         _ => Opened::NoOpener,
+    }
+}
+
+// Whether a lexeme opens: codes 5 to 8, 14, 33, 35, 37.
+pub fn opens(kind: u8) -> bool
+    ensures { λ r. ⌜ r ≡ isOpener kind ⌝ }
+{
+    (5 <= kind) & (kind <= 8) | (kind == 14) | (kind == 33) | (kind == 35) | (kind == 37)
+}
+
+// Whether it closes: codes 9, 15, 34, 36, 38.
+pub fn closes(kind: u8) -> bool
+    ensures { λ r. ⌜ r ≡ isCloser kind ⌝ }
+{
+    (kind == 9) | (kind == 15) | (kind == 34) | (kind == 36) | (kind == 38)
+}
+
+// The refusal of an opener that is never closed.
+pub fn unclosed_number(kind: u8) -> u8
+    ensures { λ r. ⌜ r ≡ unclosed kind ⌝ }
+{
+    match kind {
+        14 => 26,
+        7 => 28,
+        8 => 28,
+        5 => 27,
+        6 => 27,
+        _ => 25,
     }
 }
 

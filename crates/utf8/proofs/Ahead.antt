@@ -21,6 +21,9 @@ join {t} {a} {b} {c} x y =
     let v : b ≤ c = y .up in
     record { up = omega arith; inside = y .inside; same = x .same ∙ y .same }
 
+pub join-at : {t : List ℕ} {a b d e : ℕ} → Ahead t a b → Ahead t d e → b ≡ d → Ahead t a e
+join-at x y e = join (rw e at x) y
+
 -- over one character
 pub over : {t : List ℕ} {i : ℕ} (n : ℕ) → i < length t → n ≡ charLength (drop i t) → (n ≡ 0 → ⊥) → Ahead t i (i + n)
 over {t} {i} n h e z =
@@ -45,11 +48,14 @@ block-goes-on false y j h b f = record { then = λ e. absurd (false≢true e) }
 pub block-ends : {x : Bool} {t : List ℕ} {a j : ℕ} (m : ℕ) → j ≡ m → IfSo x t a (a + j) → IfSo x t a (a + m)
 block-ends m e f = rw (← e) f
 
--- the next place, over ASCII bytes or over one character
+-- the next place, over ASCII bytes, over several characters or over one
 pub next-ascii : {t : List ℕ} {i r : ℕ} → i < length t → getD t i 0 < 0x80 → Ahead t (i + 1) r → Next t i r
 next-ascii {t} {i} {r} h b x =
     let u : i + 1 ≤ r = x .up in
     record { ahead = λ ne. join (on h b (stay (omega arith))) x; bad = λ (e : r ≡ i). absurd (omega (arith, e)) }
+
+pub next-ahead : {t : List ℕ} {i r : ℕ} → i < r → Ahead t i r → Next t i r
+next-ahead {t} {i} {r} h x = record { ahead = λ ne. x; bad = λ (e : r ≡ i). absurd (omega (arith, e)) }
 
 pub next-char : {t : List ℕ} {i : ℕ} (n : ℕ) → i < length t → n ≡ charLength (drop i t) → Next t i (i + n)
 next-char {t} {i} n h e =

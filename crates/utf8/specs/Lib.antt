@@ -2,3 +2,4 @@
 pub mod Meaning
 -- what the private functions ensure
 pub mod Ahead
+pub mod Blocks

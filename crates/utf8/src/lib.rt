@@ -1,10 +1,12 @@
 // UTF-8 by RFC 3629: whether a text is UTF-8, and where its first bad sequence begins.
 ghost use mathlib.Core.Path.{_≡_};
+ghost use mathlib.Core.Bool.{cond};
 ghost use Prim.Native.Nat.{_+_, _≤_, _<_};
 ghost use lib.ListN.{length, drop, getD};
 ghost use Rattle.rules.specs.Utf8.{isOctet, isTwo, isThree, isFour, charLength, firstBad};
 ghost use Rattle.utf8.specs.Meaning.{checkedMeant};
 ghost use Rattle.utf8.specs.Ahead.{Ahead, IfSo, Next};
+ghost use Rattle.utf8.specs.Blocks.{IfFollows, AllFollow, Largest, IfGood, StartsAt, IfStarts, lastBoundary};
 
 // The whole text is UTF-8, or where its first bad sequence begins.
 pub enum Checked {
@@ -114,17 +116,176 @@ fn skip_blocks(text: &[u8], at: usize, size: usize) -> usize
     i
 }
 
-// Passes over ASCII bytes, many at a time.
+// Passes over ASCII bytes, far: in blocks of 128, then of 32.
+fn skip_far(text: &[u8], at: usize) -> usize
+    requires { ⌜ at ≤ length (now text) ⌝ }
+    ensures { λ r. ⌜ Ahead (now (text .entry)) at r ⌝ }
+{
+    let a = skip_blocks(text, at, 128);
+    skip_blocks(text, a, 32)
+}
+
+// Passes over ASCII bytes, many at a time; far only behind one block of 32: between other characters most runs are short.
 fn skip(text: &[u8], at: usize) -> usize
     requires { ⌜ at ≤ length (now text) ⌝ }
     ensures { λ r. ⌜ Ahead (now (text .entry)) at r ⌝ }
 {
-    let a = skip_blocks(text, at, 32);
+    let mut a = at;
+    if 32 <= text.len() - at {
+        if ascii(text, at, 32) {
+            a = skip_far(text, at + 32);
+        }
+    }
     let b = skip_blocks(text, a, 8);
     skip_blocks(text, b, 1)
 }
 
-// The place behind the ASCII bytes or the character at a position; the position itself where there is neither.
+// `x` where a test holds, `y` elsewhere.
+fn pick(test: bool, x: u8, y: u8) -> u8
+    ensures { λ r. ⌜ r ≡ cond test x y ⌝ }
+{
+    if test {
+        return x;
+    }
+    y
+}
+
+// Whether `d`, which is F4 at most, can stand behind `a`, `b` and `c`: a tail where a character goes on, ASCII or a first
+// byte elsewhere. Tails under A0 do not follow E0, the others do not follow ED; those under 90 do not follow F0, the others
+// do not follow F4: by `^` one comparison with `c` serves both. With `d < 0x80` each test is one signed comparison.
+fn follows(a: u8, b: u8, c: u8, d: u8) -> bool
+    ensures { λ r. ⌜ IfFollows r a b c d ⌝ }
+{
+    let due = (0xF0 <= a) | (0xE0 <= b) | (0xC0 <= c);
+    let tail = octet(0x80, 0xBF, d);
+    let first = (d < 0x80) | (0xC2 <= d);
+    let three = pick((d < 0x80) | (0xA0 <= d), 0xE0 ^ 0xED, 0);
+    let four = pick((d < 0x80) | (0x90 <= d), 0xF0 ^ 0xF4, 0);
+    (due & tail | !due & first) & (c ^ three != 0xE0) & (c ^ four != 0xF0)
+}
+
+// Whether each byte of a block can stand behind the three before it; the block begins at `at + 3`.
+fn all_follow(text: &[u8], at: usize, size: usize) -> bool
+    requires { ⌜ at + size + 3 ≤ length (now text) ⌝ }
+    ensures { λ r. ⌜ AllFollow r (now (text .entry)) at (at + size) ⌝ }
+{
+    let mut all = true;
+    let mut j = 0;
+    while j < size {
+        all = all
+            & follows(
+                text[at + j],
+                text[at + j + 1],
+                text[at + j + 2],
+                text[at + j + 3],
+            );
+        j += 1;
+    }
+    all
+}
+
+// The larger of two bytes.
+fn larger(x: u8, y: u8) -> u8
+    ensures { λ r. ⌜ (x ≤ r) × (y ≤ r) ⌝ }
+{
+    if x < y {
+        return y;
+    }
+    x
+}
+
+// The largest byte of a block.
+fn largest(text: &[u8], at: usize, size: usize) -> u8
+    requires { ⌜ at + size ≤ length (now text) ⌝ }
+    ensures { λ r. ⌜ Largest r (now (text .entry)) at (at + size) ⌝ }
+{
+    let mut most = 0;
+    let mut j = 0;
+    while j < size {
+        most = larger(most, text[at + j]);
+        j += 1;
+    }
+    most
+}
+
+// Whether a text can begin with three bytes.
+fn starts(a: u8, b: u8, c: u8) -> bool
+    ensures { λ r. ⌜ IfStarts r a b c ⌝ }
+{
+    (a <= 0xF4)
+        & (b <= 0xF4)
+        & (c <= 0xF4)
+        & follows(0, 0, 0, a)
+        & follows(0, 0, a, b)
+        & follows(0, a, b, c)
+}
+
+// The place behind the three bytes at a position, or that of the character among them that goes on behind them.
+fn last_boundary(text: &[u8], at: usize) -> usize
+    requires { ⌜ at + 3 ≤ length (now text) ⌝ }
+    ensures { λ r. ⌜ r ≡ lastBoundary (now (text .entry)) at ⌝ }
+{
+    if 0xC0 <= text[at + 2] {
+        return at + 2;
+    }
+    if 0xE0 <= text[at + 1] {
+        return at + 1;
+    }
+    if 0xF0 <= text[at] {
+        return at;
+    }
+    at + 3
+}
+
+// Whether a block of 64 bytes that begins at `at + 3` is good, and more than ASCII.
+fn mixed(text: &[u8], at: usize) -> bool
+    requires { ⌜ at + 64 + 3 ≤ length (now text) ⌝ }
+    ensures { λ r. ⌜ IfGood r (now (text .entry)) at (at + 64) ⌝ }
+{
+    let most = largest(text, at + 3, 64);
+    if most < 0x80 {
+        return false;
+    }
+    if 0xF4 < most {
+        return false;
+    }
+    all_follow(text, at, 64)
+}
+
+// Passes over blocks in which characters of any length stand.
+fn skip_mixed_blocks(text: &[u8], at: usize) -> usize
+    requires { ⌜ (at + 3 ≤ length (now text)) × StartsAt (now text) at ⌝ }
+    ensures { λ r. ⌜ Ahead (now (text .entry)) at r ⌝ }
+{
+    let n = text.len();
+    let mut i = at;
+    while 64 + 3 <= n - i {
+        if !mixed(text, i) {
+            return last_boundary(text, i);
+        }
+        i += 64;
+    }
+    last_boundary(text, i)
+}
+
+// Passes over characters of any length in blocks, unless ASCII bytes come next.
+fn skip_mixed(text: &[u8], at: usize) -> usize
+    requires { ⌜ at ≤ length (now text) ⌝ }
+    ensures { λ r. ⌜ Ahead (now (text .entry)) at r ⌝ }
+{
+    if text.len() - at < 64 + 3 {
+        return at;
+    }
+    if ascii(text, at + 3, 64) {
+        return at;
+    }
+    if starts(text[at], text[at + 1], text[at + 2]) {
+        return skip_mixed_blocks(text, at);
+    }
+    at
+}
+
+// The place behind the ASCII bytes or the characters at a position; the position itself where there is neither.
 fn next(text: &[u8], at: usize) -> usize
     requires { ⌜ at < length (now text) ⌝ }
     ensures { λ r. ⌜ Next (now (text .entry)) at r ⌝ }
@@ -132,10 +293,14 @@ fn next(text: &[u8], at: usize) -> usize
     if text[at] < 128 {
         return skip(text, at + 1);
     }
+    let a = skip_mixed(text, at);
+    if at < a {
+        return a;
+    }
     at + char_length(text, at)
 }
 
-// Goes over the text from place to place: ASCII bytes in blocks, other characters one by one.
+// Goes over the text from place to place: in blocks, and one character at a time where no block fits.
 pub fn check(text: &[u8]) -> Checked
     ensures { λ r. ⌜ checkedMeant r ≡ firstBad (now (text .entry)) ⌝ }
 {

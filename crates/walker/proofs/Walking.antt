@@ -1,24 +1,24 @@
 -- A step of the walker by its innermost opener, and what it writes by its answer.
-use Prim.Native.Nat.{ℕ, zero, suc, _+_, _-_, _≤_, _<_, _^_}
+use Prim.Native.Nat.{ℕ, zero, suc, _+_, _≤_, _<_, _^_}
 use native.Mathlib.Omega.{arith}
 use native.Mathlib.Nat.{add-zero}
 use mathlib.Core.Path.{_≡_, refl, sym, ap, _∙_}
 use mathlib.Core.List.{List, [], _∷_}
-use mathlib.Core.Bool.{Bool, true, false, cond, not, _&&_, _||_}
+use mathlib.Core.Bool.{Bool, true, false, cond, not, _&&_}
 use mathlib.Core.Option.{Option, none, some}
 use lib.Dec.{leb, ltb, eqb}
 use lib.ListN.{length, drop, length-drop}
 use borrow.Author.Tests.{lt-ltb, le-ltb, le-leb, lt-leb, ltb-false, leb-false}
-use Rattle.rules.specs.Spans.{Span, span, limit, Answer, given, refused, refuse, Refusal, Verdict}
+use Rattle.rules.specs.Spans.{Span, span, limit, given, refused, refuse, Refusal, Verdict}
 use Rattle.rules.specs.Refusals.{AnotherDue, UnclosedBracket, UnclosedHole, UnclosedString, UnclosedFormat, WrongForm}
 use Rattle.rules.specs.Kinds.{Nothing, HoleOpen, between, isQuoteOpen, isFormat, isOpener}
 use Rattle.rules.specs.Step.{Step, found, stop, step}
 use Rattle.rules.specs.Lexing.{stopped, Lexeme, lexeme, atEnd, innermost, placesOf, unclosed, noteOf, verdictOf}
-use Rattle.rules.specs.Walker.{Walker, Walked, walking, walkedFresh, walkedAt, walkedStep, walkedEnd, goes, stays, kindsPut, wordsPut, openIn, codesOf, isAstray}
+use Rattle.rules.specs.Walker.{Walker, Walked, walking, walkedFresh, walkedAt, walkedStep, walkedEnd, goes, kindsPut, wordsPut, openIn, codesOf, isAstray}
 use Rattle.rules.proofs.Text.{decide}
 use Rattle.rules.proofs.Bounds.{found-inside, stop-inside}
 use Rattle.lexer.specs.Outcome.{lexemeTo, refusedAt, outcome, steppedAt}
-use Rattle.walker.specs.Moved.{moved, movedOf, topOf, astrayBy, noteBy, endBy, foundBy, stoppedBy, stepBy, movedBy, Writes}
+use Rattle.walker.specs.Moved.{moved, movedOf, topOf, noteBy, endBy, foundBy, stoppedBy, stepBy, movedBy, Writes}
 use Rattle.walker.proofs.Openers.{some-open, open-suc, innermost-top, astray-top, none-of}
 
 -- the refusal of an opener that is never closed has a note

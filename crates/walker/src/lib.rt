@@ -2,8 +2,7 @@
 ghost use mathlib.Core.Path.{_≡_};
 ghost use mathlib.Core.Bool.{cond};
 ghost use Prim.Native.Nat.{pred};
-ghost use Rattle.rules.specs.Kinds.{isOpener, isCloser};
-ghost use Rattle.rules.specs.Lexing.{unclosed};
+ghost use Rattle.rules.specs.Kinds.{isCloser};
 ghost use Rattle.rules.specs.Walker.{opening, walking};
 ghost use Rattle.source.specs.Meaning.{noteMeant, spanMeant};
 ghost use Rattle.list.specs.Entries.{entryMeant};
@@ -53,33 +52,6 @@ pub fn opening_refusal(doc: u32, text: &[u8]) -> Kept
     Kept::Refused(source::refuse(1, at))
 }
 
-// Codes 5 to 8, 14, 33, 35, 37.
-fn opens(kind: u8) -> bool
-    ensures { λ r. ⌜ r ≡ isOpener kind ⌝ }
-{
-    (5 <= kind) & (kind <= 8) | (kind == 14) | (kind == 33) | (kind == 35) | (kind == 37)
-}
-
-fn closes(kind: u8) -> bool
-    ensures { λ r. ⌜ r ≡ isCloser kind ⌝ }
-{
-    (kind == 9) | (kind == 15) | (kind == 34) | (kind == 36) | (kind == 38)
-}
-
-// The refusal of an opener that is never closed.
-fn unclosed_number(kind: u8) -> u8
-    ensures { λ r. ⌜ r ≡ unclosed kind ⌝ }
-{
-    match kind {
-        14 => 26,
-        7 => 28,
-        8 => 28,
-        5 => 27,
-        6 => 27,
-        _ => 25,
-    }
-}
-
 // The innermost opener; where nothing is open, a Space at 0-0.
 fn top(skinds: &[u8], swords: &[u64], depth: usize) -> Entry
     ensures { λ r. ⌜ entryMeant r ≡ topOf depth (now (skinds .entry)) (now (swords .entry)) ⌝ }
@@ -97,7 +69,7 @@ fn top(skinds: &[u8], swords: &[u64], depth: usize) -> Entry
 fn astray(text: &[u8], position: usize, depth: usize, places: usize, kind: u8) -> bool
     ensures { λ r. ⌜ r ≡ astrayBy (now (text .entry)) position depth places kind ⌝ }
 {
-    let other = !opens(kind);
+    let other = !token::opens(kind);
     (text.len() < position) | (places < depth) | (depth != 0) & other
 }
 
@@ -119,7 +91,7 @@ fn at_end(at: Span, depth: usize, opener: Entry) -> Answer
     if depth == 0 {
         return Answer::Ended;
     }
-    let number = unclosed_number(opener.kind);
+    let number = token::unclosed_number(opener.kind);
     let noted = opener.at;
     Answer::Refused(Refusal {
         number: number,
@@ -132,7 +104,7 @@ fn at_end(at: Span, depth: usize, opener: Entry) -> Answer
 fn closed(kind: u8, depth: usize) -> usize
     ensures { λ r. ⌜ r ≡ cond (isCloser kind) (pred depth) depth ⌝ }
 {
-    if !closes(kind) {
+    if !token::closes(kind) {
         return depth;
     }
     if depth == 0 {
@@ -146,7 +118,7 @@ fn found(entry: Entry, end: usize, position: usize, depth: usize, places: usize)
     ensures { λ r. ⌜ movedMeant r ≡ foundBy (entryMeant entry) end position depth places ⌝ }
 {
     let kind = entry.kind;
-    if !opens(kind) {
+    if !token::opens(kind) {
         return Stepped {
             answer: Answer::Lexeme(entry),
             position: end,
@@ -209,8 +181,7 @@ fn goes_on(
     match step {
         Step::Found(lexeme) => {
             let end = lexeme.end;
-            let token = lexeme.token;
-            let kind = token::code(token);
+            let kind = lexeme.kind;
             let at = Span::pack(doc, position, end);
             let entry = Entry { kind: kind, at: at };
             found(entry, end, position, depth, places)
@@ -270,7 +241,7 @@ fn write(depth: usize, answer: Answer, skinds: &mut [u8], swords: &mut [u64])
     let Answer::Lexeme(entry) = answer else {
         return;
     };
-    if opens(entry.kind) {
+    if token::opens(entry.kind) {
         list::put(skinds, swords, depth, entry);
     }
 }

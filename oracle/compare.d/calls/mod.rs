@@ -3,6 +3,11 @@
 // Each program uses some of them.
 #![allow(dead_code)]
 
+#[path = "../../../bindings/rust/src/raw.rs"]
+mod raw;
+
+pub use raw::*;
+
 use judge::reference::{self, Counts};
 use judge::refusal::Refusal;
 use judge::report::Damage;
@@ -10,213 +15,8 @@ use judge::respace;
 use judge::source::words;
 use judge::strings::value::Held;
 use judge::strings::{self, Refused};
+use judge::tally::Tally;
 use judge::walker::{self, Given};
-
-/// `rcl_lexed` of include/rcl.h.
-#[repr(C)]
-#[derive(Copy, Clone, Debug, Default, Eq, PartialEq)]
-pub struct Lexed {
-    pub refused: u64,
-    pub number: u64,
-    pub low: u64,
-    pub high: u64,
-    pub noted: u64,
-    pub note_low: u64,
-    pub note_high: u64,
-    pub lexemes: u64,
-    pub steps: u64,
-    pub kept: u64,
-    pub dropped: u64,
-    pub deepest: u64,
-}
-
-/// `rcl_answer`.
-#[repr(C)]
-#[derive(Copy, Clone, Debug, Default, Eq, PartialEq)]
-pub struct Answer {
-    pub refused: u64,
-    pub number: u64,
-    pub low: u64,
-    pub high: u64,
-    pub count: u64,
-}
-
-/// `rcl_parted`.
-#[repr(C)]
-#[derive(Copy, Clone, Debug, Default, Eq, PartialEq)]
-pub struct Parted {
-    pub refused: u64,
-    pub number: u64,
-    pub low: u64,
-    pub high: u64,
-    pub closer: u64,
-    pub parts: u64,
-}
-
-/// `rcl_valued`.
-#[repr(C)]
-#[derive(Copy, Clone, Debug, Default, Eq, PartialEq)]
-pub struct Valued {
-    pub refused: u64,
-    pub number: u64,
-    pub low: u64,
-    pub high: u64,
-    pub in_output: u64,
-    pub start: u64,
-    pub end: u64,
-    pub parts: u64,
-}
-
-/// `rcl_tidied`.
-#[repr(C)]
-#[derive(Copy, Clone, Debug, Default, Eq, PartialEq)]
-pub struct Tidied {
-    pub lexed: Lexed,
-    pub written: u64,
-}
-
-/// `rcl_walker`: what opening keeps.
-#[repr(C)]
-#[derive(Copy, Clone, Debug, Default, Eq, PartialEq)]
-pub struct Walker {
-    pub refused: u64,
-    pub number: u64,
-    pub low: u64,
-    pub high: u64,
-}
-
-/// `rcl_stepped`.
-#[repr(C)]
-#[derive(Copy, Clone, Debug, Default, Eq, PartialEq)]
-pub struct Stepped {
-    pub answer: u64,
-    pub number: u64,
-    pub low: u64,
-    pub high: u64,
-    pub noted: u64,
-    pub note_low: u64,
-    pub note_high: u64,
-    pub position: u64,
-    pub depth: u64,
-}
-
-extern "C" {
-    pub fn rcl_lex(
-        doc: u32,
-        text: *const u8,
-        len: usize,
-        kinds: *mut u8,
-        kinds_len: usize,
-        words: *mut u64,
-        words_len: usize,
-        stack_kinds: *mut u8,
-        stack_kinds_len: usize,
-        stack_words: *mut u64,
-        stack_words_len: usize,
-    ) -> Lexed;
-
-    pub fn rcl_is_identifier(bytes: *const u8, len: usize) -> bool;
-
-    pub fn rcl_is_keyword(bytes: *const u8, len: usize) -> bool;
-
-    pub fn rcl_scalar_value(text: *const u8, len: usize, low: u64, high: u64, kind: u8) -> Answer;
-
-    pub fn rcl_unescape_into(
-        text: *const u8,
-        len: usize,
-        low: u64,
-        high: u64,
-        kind: u8,
-        output: *mut u8,
-        output_len: usize,
-        position: usize,
-    ) -> Answer;
-
-    pub fn rcl_count_common_leading_spaces(
-        text: *const u8,
-        len: usize,
-        kinds: *const u8,
-        kinds_len: usize,
-        words: *const u64,
-        words_len: usize,
-        parts: usize,
-    ) -> Answer;
-
-    pub fn rcl_parts(
-        kinds: *const u8,
-        kinds_len: usize,
-        words: *const u64,
-        words_len: usize,
-        lexemes: usize,
-        place: usize,
-        part_kinds: *mut u8,
-        part_kinds_len: usize,
-        part_words: *mut u64,
-        part_words_len: usize,
-    ) -> Parted;
-
-    pub fn rcl_value(
-        text: *const u8,
-        len: usize,
-        kinds: *const u8,
-        kinds_len: usize,
-        words: *const u64,
-        words_len: usize,
-        lexemes: usize,
-        place: usize,
-        part_kinds: *mut u8,
-        part_kinds_len: usize,
-        part_words: *mut u64,
-        part_words_len: usize,
-        output: *mut u8,
-        output_len: usize,
-        position: usize,
-    ) -> Valued;
-
-    pub fn rcl_hand_check(
-        text: *const u8,
-        len: usize,
-        output: *const u8,
-        output_len: usize,
-        which: u64,
-        start: usize,
-        end: usize,
-    ) -> Answer;
-
-    pub fn rcl_tidy(
-        doc: u32,
-        text: *const u8,
-        len: usize,
-        kinds: *mut u8,
-        kinds_len: usize,
-        words: *mut u64,
-        words_len: usize,
-        stack_kinds: *mut u8,
-        stack_kinds_len: usize,
-        stack_words: *mut u64,
-        stack_words_len: usize,
-        output: *mut u8,
-        output_len: usize,
-    ) -> Tidied;
-
-    pub fn rcl_walker_open(doc: u32, text: *const u8, len: usize) -> Walker;
-
-    pub fn rcl_walker_step(
-        doc: u32,
-        text: *const u8,
-        len: usize,
-        position: usize,
-        depth: usize,
-        kept: u64,
-        kept_number: u8,
-        kept_low: u64,
-        kept_high: u64,
-        stack_kinds: *mut u8,
-        stack_kinds_len: usize,
-        stack_words: *mut u64,
-        stack_words_len: usize,
-    ) -> Stepped;
-}
 
 // What the judge answers, in the words that must come back: 0 where there is nothing to
 // say.
@@ -262,6 +62,25 @@ impl Tidied {
         Tidied {
             lexed: Lexed::of(&tidied.answer),
             written: tidied.written as u64,
+        }
+    }
+}
+
+impl Counted {
+    pub fn of(answer: &reference::Answer, after: Tally) -> Counted {
+        Counted {
+            lexed: Lexed::of(answer),
+            accepted: after.accepted,
+            refused: after.refused,
+            steps: after.steps,
+        }
+    }
+
+    pub fn tally(&self) -> Tally {
+        Tally {
+            accepted: self.accepted,
+            refused: self.refused,
+            steps: self.steps,
         }
     }
 }
@@ -387,9 +206,21 @@ pub fn part_words(part: Held) -> (u64, usize, usize) {
     }
 }
 
+impl Damage for Lexed {
+    fn damage(&mut self) {
+        self.steps ^= 1;
+    }
+}
+
 impl Damage for Tidied {
     fn damage(&mut self) {
         self.written ^= 1;
+    }
+}
+
+impl Damage for Counted {
+    fn damage(&mut self) {
+        self.steps ^= 1;
     }
 }
 

@@ -13,6 +13,19 @@ const LONG_ONCE_IN: usize = 300;
 /// How deeply texts nest that are made for it.
 const DEEPEST: usize = 40;
 
+/// Some with an empty span, a longer one, or a note.
+const REFUSED_ENDS: [&str; 9] = [
+    ")",
+    "(]",
+    "f\"{",
+    "\"a",
+    "1e+",
+    "0b__",
+    "\"\\u12\"",
+    "$",
+    "\x0b\n\x01",
+];
+
 /// A text, and its steps with ample memory: none of them is refused.
 pub struct Accepted {
     pub text: Vec<u8>,
@@ -86,6 +99,27 @@ impl Supply {
             5 => nested::text(&mut self.random, DEEPEST, LONG),
             _ => self.texts.next().expect("The supply is endless."),
         }
+    }
+
+    /// Accepted texts, each with a line end behind it, of more than 2^16 bytes together: up
+    /// to there the second word of a span holds the id alone. It is accepted too.
+    pub fn joined(&mut self) -> Vec<u8> {
+        let full = self.random.between(1 << 16, 3 << 16);
+        let mut text = Vec::new();
+        while text.len() <= full {
+            text.extend(self.next(DocId(0)).text);
+            text.push(b'\n');
+        }
+        text
+    }
+
+    /// The same, with a refusal at its end in every second one.
+    pub fn any_joined(&mut self) -> Vec<u8> {
+        let mut text = self.joined();
+        if self.random.once_in(2) {
+            text.extend(self.random.pick(&REFUSED_ENDS).as_bytes());
+        }
+        text
     }
 
     fn long_text(&mut self) -> Vec<u8> {

@@ -2,6 +2,7 @@
 //! depth, stacks with any codes and words, kept refusals. Most are such as no walk reaches.
 
 use super::accepted::Supply;
+use super::any_doc;
 use super::random::Random;
 use crate::lent::{lengths, Lengths};
 use crate::refusal::Refusal;
@@ -70,7 +71,7 @@ impl States {
 
     pub fn next_state(&mut self) -> State {
         let (text, looked_at) = self.text();
-        let doc = self.doc();
+        let doc = any_doc(&mut self.random);
         let places = self.random.below(MOST_PLACES + 1);
         let lengths = lengths(&mut self.random, places);
         let before = Place {
@@ -111,14 +112,6 @@ impl States {
         }
         text[at - 1] = b'\\';
         (text, at - 1)
-    }
-
-    fn doc(&mut self) -> DocId {
-        match self.random.below(4) {
-            0 => DocId(0),
-            1 => DocId(u32::MAX),
-            _ => DocId(self.random.next() as u32),
-        }
     }
 
     fn position(&mut self, len: usize, looked_at: usize) -> usize {

@@ -22,7 +22,9 @@ same-length-4 : tie.Need-same-length-4
 same-length-4 c = search needs
 
 returns : tie.Need-returns
-returns c = rw (c .in-words .ensures) (c .before .before .before .before .before .before .before .before .before .lex .ensures)
+returns c =
+    let lexed = c .before .before .before .before .before .before .before .before .before .lex .ensures in
+    (rw (c .in-words .ensures .0) lexed, c .in-words .ensures .1)
 
 pub rcl-lex-spec : {M : Type 1} → statement M
 rcl-lex-spec =

@@ -1,34 +1,63 @@
--- The scan stops among the first bytes, or has come over them, then over the blocks, then to the last bytes.
-use Rattle.scan.proofs.Reach.{join, over, reached, ended}
-use borrow.Author.Needs.{needs}
+-- The scan has come to here; each turn joins a block to it, or stops in one.
+use Prim.Native.Nat.{_-_}
+use mathlib.Core.Path.{sym, _∙_}
+use lib.ListN.{length}
+use Rattle.scan.specs.Classes.{isInnerFor}
+use Rattle.scan.specs.Reach.{Reach}
+use Rattle.scan.proofs.Reach.{stay, join, over, reached}
+use native.Mathlib.Omega.{arith}
 use Rattle.scan.proofs.inner_end_from.Statement.{statement}
 use Rattle.scan.proofs.inner_end_from.Tie as tie
 
-further-requires : tie.Need-further-requires
-further-requires c κs = search needs
+abbrev Inv-loop : tie.InvT-loop
+Inv-loop text at stop n i₀ i = Reach (isInnerFor stop) text at i
 
-inner-bytes-requires : tie.Need-inner-bytes-requires
-inner-bytes-requires c κs = search needs
+abbrev μ-loop : tie.MeasureT-loop
+μ-loop text at stop n i₀ i = length text - i
 
-returns : tie.Need-returns
-returns c = over (c .before .inner-bytes .ensures .ended (c .if1 .taken)) (c .before .inner-bytes .ensures .reach)
+loop-holds : tie.Need-loop-holds Inv-loop μ-loop
+loop-holds c = stay
 
-inner-blocks-requires : tie.Need-inner-blocks-requires
-inner-blocks-requires c κs = search needs
+sub-loop : tie.Need-sub-loop Inv-loop μ-loop
+sub-loop c = omega arith
 
-inner-bytes-requires-2 : tie.Need-inner-bytes-requires-2
-inner-bytes-requires-2 c κs = search needs
+inner-first-requires : tie.Need-inner-first-requires Inv-loop μ-loop
+inner-first-requires c κs = omega arith
 
-returns-2 : tie.Need-returns-2
-returns-2 c = over (ended (c .inner-bytes2 .ensures)) (join (reached (c .before .before .if1 .left) (c .before .before .before .inner-bytes .ensures)) (join (c .before .inner-blocks .ensures) (c .inner-bytes2 .ensures .reach)))
+add-result : tie.Need-add-result Inv-loop μ-loop
+add-result c = omega arith
+
+returns : tie.Need-returns Inv-loop μ-loop
+returns c = over (c .before .inner-first .ensures .ended (omega arith)) (join (c .before .before .before .loop .inv) (c .before .inner-first .ensures .reach))
+
+add-i : tie.Need-add-i Inv-loop μ-loop
+add-i c = omega arith
+
+loop-less : tie.Need-loop-less Inv-loop μ-loop
+loop-less c = omega arith
+
+loop-again : tie.Need-loop-again Inv-loop μ-loop
+loop-again c = join (c .before .before .before .loop .inv) (reached (omega arith) (c .before .inner-first .ensures))
+
+inner-bytes-requires : tie.Need-inner-bytes-requires Inv-loop μ-loop
+inner-bytes-requires c κs = omega arith
+
+returns-2 : tie.Need-returns-2 Inv-loop μ-loop
+returns-2 c = c .inner-bytes .ensures ∙ sym (c .before .before .loop .inv .same)
 
 pub inner-end-from-spec : {M : Type 1} → statement M
 inner-end-from-spec =
     tie.close
     (tie.spec
-    further-requires
-    inner-bytes-requires
+    Inv-loop
+    μ-loop
+    loop-holds
+    sub-loop
+    inner-first-requires
+    add-result
     returns
-    inner-blocks-requires
-    inner-bytes-requires-2
+    add-i
+    loop-less
+    loop-again
+    inner-bytes-requires
     returns-2)

@@ -1,33 +1,34 @@
--- The scan has come over the blocks, and then to here; each turn is one more byte of it.
+-- The scan has come to here; each turn joins a block to it, or stops in one.
 use Prim.Native.Nat.{_-_}
-use Prim.Native.Char.{code}
+use mathlib.Core.Path.{sym, _∙_}
 use lib.ListN.{length}
-use borrow.Author.Tests.{eq-eqb, ne-eqb}
 use Rattle.rules.specs.Bytes.{isNotLF}
 use Rattle.scan.specs.Reach.{Reach}
-use Rattle.scan.proofs.Reach.{more, stop, done}
+use Rattle.scan.proofs.Reach.{stay, join, over, reached}
 use native.Mathlib.Omega.{arith}
 use Rattle.scan.proofs.line_end_from.Statement.{statement}
 use Rattle.scan.proofs.line_end_from.Tie as tie
 
 abbrev Inv-loop : tie.InvT-loop
-Inv-loop text at i₀ i = Reach isNotLF text at i
+Inv-loop text at n i₀ i = Reach isNotLF text at i
 
 abbrev μ-loop : tie.MeasureT-loop
-μ-loop text at i₀ i = length text - i
-
-line-blocks-requires : tie.Need-line-blocks-requires Inv-loop μ-loop
-line-blocks-requires c κs = c .before .pre
+μ-loop text at n i₀ i = length text - i
 
 loop-holds : tie.Need-loop-holds Inv-loop μ-loop
-loop-holds c = c .line-blocks .ensures
+loop-holds c = stay
 
-shared-slice-read-if1 : tie.Need-shared-slice-read-if1 Inv-loop μ-loop
-shared-slice-read-if1 c = omega arith
+sub-loop : tie.Need-sub-loop Inv-loop μ-loop
+sub-loop c = omega arith
+
+line-first-requires : tie.Need-line-first-requires Inv-loop μ-loop
+line-first-requires c κs = omega arith
+
+add-result : tie.Need-add-result Inv-loop μ-loop
+add-result c = omega arith
 
 returns : tie.Need-returns Inv-loop μ-loop
-unfolding isNotLF
-returns c = stop (rw (eq-eqb _ (code "\n") (c .if1 .taken))) (c .before .before .before .loop .inv)
+returns c = over (c .before .line-first .ensures .ended (omega arith)) (join (c .before .before .before .loop .inv) (c .before .line-first .ensures .reach))
 
 add-i : tie.Need-add-i Inv-loop μ-loop
 add-i c = omega arith
@@ -36,11 +37,13 @@ loop-less : tie.Need-loop-less Inv-loop μ-loop
 loop-less c = omega arith
 
 loop-again : tie.Need-loop-again Inv-loop μ-loop
-unfolding isNotLF
-loop-again c = more (omega arith) (rw (ne-eqb _ (code "\n") (c .if1 .left))) (c .before .before .before .loop .inv)
+loop-again c = join (c .before .before .before .loop .inv) (reached (omega arith) (c .before .line-first .ensures))
+
+line-bytes-requires : tie.Need-line-bytes-requires Inv-loop μ-loop
+line-bytes-requires c κs = omega arith
 
 returns-2 : tie.Need-returns-2 Inv-loop μ-loop
-returns-2 c = done (omega arith) (c .before .loop .inv)
+returns-2 c = c .line-bytes .ensures ∙ sym (c .before .before .loop .inv .same)
 
 pub line-end-from-spec : {M : Type 1} → statement M
 line-end-from-spec =
@@ -48,11 +51,13 @@ line-end-from-spec =
     (tie.spec
     Inv-loop
     μ-loop
-    line-blocks-requires
     loop-holds
-    shared-slice-read-if1
+    sub-loop
+    line-first-requires
+    add-result
     returns
     add-i
     loop-less
     loop-again
+    line-bytes-requires
     returns-2)

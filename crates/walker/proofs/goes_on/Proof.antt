@@ -1,6 +1,6 @@
 -- At the text's end the answer is that of `at_end`; before it what the step found or refused is the definition's (`found-on`, `stop-on`), and its span is within the limit.
 use Prim.Native.Nat.{_<_, _^_}
-use mathlib.Core.Path.{_≡_, sym, ap, _∙_}
+use mathlib.Core.Path.{sym, ap, _∙_}
 use native.Mathlib.Omega.{arith}
 use lib.ListN.{length}
 use borrow.Author.Tests.{le-leb}
@@ -25,7 +25,7 @@ returns c =
 
 returns-2 : tie.Need-returns-2
 returns-2 c =
-    let k = c .before .before .before .before in
+    let k = c .before .before .before in
     let t = k .before .before in
     let s = t .before .before .before in
     let a = s .args in
@@ -33,7 +33,7 @@ returns-2 c =
     let found = sym (ap stepMeant (k .step .given .1)) ∙ t .step-at .ensures in
     let small = found-small (a .doc) (a .position) (a .depth) (a .places) (a .text .now) (entryMeant (a .opener)) inside (s .pre .small) _ _ found in
     let at = packed (a .doc) (a .position) _ (c .before .pack2 .result .low) (c .before .pack2 .result .high) (omega (arith, s .pre .inside, s .pre .small)) small (c .before .pack2 .ensures) in
-    rw (c .found .ensures, at, c .before .before .code .ensures)
+    rw (c .found .ensures, at)
     (found-on (a .doc) (a .position) (a .depth) (a .places) (a .text .now) (entryMeant (a .opener)) inside (s .pre .small) _ _ found)
 
 returns-3 : tie.Need-returns-3
@@ -54,6 +54,6 @@ goes-on-spec =
     tie.close
     (tie.spec
     (λ c κs. search needs) (λ c κs. search needs) returns
-    (λ c κs. search needs) (λ c. search needs) (λ c κs. search needs) (λ c κs. search needs) (λ c κs. search needs)
+    (λ c κs. search needs) (λ c. search needs) (λ c κs. search needs) (λ c κs. search needs)
     (λ c. search needs) (λ c κs. search needs) (λ c κs. search needs) returns-2
     returns-3)

@@ -1,5 +1,4 @@
 -- The test is the definition's.
-use borrow.Author.Needs.{needs}
 use Rattle.walker.proofs.note_of.Statement.{statement}
 use Rattle.walker.proofs.note_of.Tie as tie
 

@@ -1,6 +1,6 @@
 -- The tests are those of `opening`: the length, then what `check` ensures; the words of `pack` name the span (`packed`).
 use mathlib.Core.Path.{_≡_, sym, ap, _∙_}
-use mathlib.Core.Option.{none, some}
+use mathlib.Core.Option.{none}
 use native.Mathlib.Omega.{arith}
 use borrow.Author.Tests.{lt-ltb, le-ltb}
 use borrow.Author.Needs.{needs}

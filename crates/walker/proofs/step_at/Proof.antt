@@ -1,9 +1,8 @@
 -- Answer, position and depth are what `moved` ensures; what `write` leaves by the answer is what the rule leaves (`walking-told`).
-use mathlib.Core.Path.{_≡_, sym, ap, _∙_}
+use mathlib.Core.Path.{sym, ap, _∙_}
 use borrow.Author.Needs.{needs}
-use Rattle.rules.specs.Walker.{walking}
 use Rattle.walker.specs.Meaning.{walkerAt}
-use Rattle.walker.specs.Moved.{Moved, kindsBy, wordsBy}
+use Rattle.walker.specs.Moved.{Moved}
 use Rattle.walker.proofs.Walking.{walking-told}
 use Rattle.walker.proofs.step_at.Statement.{statement}
 use Rattle.walker.proofs.step_at.Tie as tie

@@ -1,12 +1,10 @@
 -- An answer that is no lexeme writes nothing, nor does a lexeme that does not open; an opener is put as `put` ensures.
-use mathlib.Core.Path.{_≡_, refl, sym, _∙_}
-use mathlib.Core.Bool.{true, false}
+use mathlib.Core.Path.{refl, sym, _∙_}
 use mathlib.Core.List.{List, [], _∷_}
 use Prim.Native.Nat.{ℕ}
 use denote.Enum.Declared.{tagOf}
 use types.Run.{OneOf, miss}
 use borrow.Author.Needs.{needs}
-use Rattle.rules.specs.Kinds.{isOpener}
 use Rattle.walker.specs.Meaning.{answerMeant}
 use Rattle.walker.specs.Moved.{Writes}
 use Rattle.walker.specs.declared.Answer.{Answer}

@@ -1,32 +1,57 @@
--- The ends, counted from `at`, are those of the definition; they stay inside the text.
+-- The ends, counted from `at`, are those of the definition; they stay inside the text. Of a length that no keyword has it is an identifier.
 use Prim.Native.Nat.{_-_}
-use native.Mathlib.Nat.{add-sub-cancel-left}
 use native.Mathlib.Omega.{arith}
+use mathlib.Core.Path.{refl}
 use borrow.Author.Needs.{needs}
 use denote.Ref.{now}
 use lib.ListN.{drop}
 use Rattle.rules.specs.Bytes.{isIdentifierByte}
-use Rattle.rules.specs.Step.{identifier, identifierLength}
 use Rattle.rules.proofs.Bounds.{giveBack-le}
 use Rattle.rules.proofs.Runs.{run-within}
+use Rattle.token.specs.Codes.{codeOf}
+use Rattle.lexer.specs.Words.{Within}
+use Rattle.lexer.proofs.Identifier.{part-none, other-length, identifier-at}
 use Rattle.lexer.proofs.ident.lex_in_ident.Statement.{statement}
 use Rattle.lexer.proofs.ident.lex_in_ident.Tie as tie
 
-pub lex-in-ident-spec : {M : Type 1} → statement M
-unfolding identifier identifierLength
-lex-in-ident-spec =
-    tie.close
-    (tie.spec
-    (λ c κs. search needs)
-    (λ c κs.
-    let a = c .before .before .args in
-    (omega arith, omega (arith, run-within isIdentifierByte (now (a .text)) (a .at) (omega arith))))
-    (λ c κs.
+-- the part that the identifier takes
+part : (c : tie.After-give-back) → Within (c .before .before .before .args .at) (c .give-back .result) (now (c .before .before .before .args .text))
+part c =
     let a = c .before .before .before .args in
     record {
       order = omega arith;
       inside = omega (arith, run-within isIdentifierByte (now (a .text)) (a .at) (omega arith), giveBack-le (drop (a .at) (now (a .text))) (c .before .ident-end .result - a .at));
-    })
+    }
+
+give-back-requires : tie.Need-give-back-requires
+give-back-requires c κs =
+    let a = c .before .before .args in
+    (omega arith, omega (arith, run-within isIdentifierByte (now (a .text)) (a .at) (omega arith)))
+
+returns : tie.Need-returns
+unfolding codeOf
+returns c =
+    let a = c .before .before .before .before .before .args in
+    let there = c .before .before in
+    rw (c .found .ensures, identifier-at (now (a .text)) (a .at) _ _ (there .before .ident-end .ensures) (there .give-back .ensures), part-none (part there) (other-length _ (c .before .if1 .taken))) refl
+
+returns-2 : tie.Need-returns-2
+returns-2 c =
+    let a = c .before .before .before .before .before .before .before .args in
+    let there = c .before .before .before .before in
+    rw (c .found2 .ensures, c .before .before .get-keyword-or-ident .ensures, identifier-at (now (a .text)) (a .at) _ _ (there .before .ident-end .ensures) (there .give-back .ensures)) refl
+
+pub lex-in-ident-spec : {M : Type 1} → statement M
+unfolding codeOf
+lex-in-ident-spec =
+    tie.close
+    (tie.spec
     (λ c κs. search needs)
-    (λ c.
-    rw (c .found .ensures, c .before .get-keyword-or-ident .ensures, c .before .before .give-back .ensures, c .before .before .before .ident-end .ensures) (simp add-sub-cancel-left)))
+    give-back-requires
+    (λ c. search needs)
+    (λ c κs. search needs)
+    returns
+    (λ c κs. part (c .before))
+    (λ c κs. search needs)
+    (λ c κs. search needs)
+    returns-2)

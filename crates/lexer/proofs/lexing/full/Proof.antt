@@ -1,34 +1,18 @@
--- The tests are those of `fullOf`, in its order.
-use mathlib.Core.Path.{_≡_}
-use mathlib.Core.Bool.{true, false, not, _&&_}
-use lib.Dec.{leb}
-use Rattle.rules.specs.Kinds.{isSpace, isOpener}
-use Rattle.lexer.specs.Cursor.{fullOf}
+-- A stack with a place is not full; else an opener meets it (`full-shallow`, `full-opener`, `full-other`).
+use mathlib.Core.Path.{sym, _∙_}
+use borrow.Author.Needs.{needs}
+use Rattle.lexer.proofs.Parts.{full-shallow, full-opener, full-other}
 use Rattle.lexer.proofs.lexing.full.Statement.{statement}
 use Rattle.lexer.proofs.lexing.full.Tie as tie
 
 returns : tie.Need-returns
-unfolding fullOf
-returns c =
-    let s = c .before .before in
-    let deep : isOpener (s .args .kind) && leb (s .args .stack) (s .args .cur .depth) ≡ true = rw (← s .pre) (c .if1 .taken) in
-    rw deep
+returns c = c .list-full .ensures ∙ full-shallow _ _ _ _ (c .before .before .before .pre) (c .before .if1 .taken)
 
 returns-2 : tie.Need-returns-2
-unfolding fullOf
-returns-2 c =
-    let s = c .before .before .before .before in
-    let room : isOpener (s .args .kind) && leb (s .args .stack) (s .args .cur .depth) ≡ false = rw (← s .pre) (c .before .before .if1 .left) in
-    let long : not (isSpace (s .args .kind)) && leb (s .args .places) (s .args .cur .lexemes) ≡ true = c .if2 .taken in
-    rw (room, long)
+returns-2 c = full-opener _ _ _ _ (c .before .before .if1 .left) (sym (c .before .opens .ensures) ∙ c .if2 .taken)
 
 returns-3 : tie.Need-returns-3
-unfolding fullOf
-returns-3 c =
-    let s = c .before .before .before .before in
-    let room : isOpener (s .args .kind) && leb (s .args .stack) (s .args .cur .depth) ≡ false = rw (← s .pre) (c .before .before .if1 .left) in
-    let place : not (isSpace (s .args .kind)) && leb (s .args .places) (s .args .cur .lexemes) ≡ false = c .if2 .left in
-    rw (room, place)
+returns-3 c = c .list-full2 .ensures ∙ full-other _ _ _ _ (c .before .before .before .before .before .pre) (sym (c .before .before .opens .ensures) ∙ c .before .if2 .left)
 
 pub full-spec : {M : Type 1} → statement M
-full-spec = tie.close (tie.spec returns returns-2 returns-3)
+full-spec = tie.close (tie.spec (λ c κs. search needs) returns (λ c κs. search needs) returns-2 (λ c κs. search needs) returns-3)

@@ -21,6 +21,7 @@ add-found : tie.Need-add-found
 add-found c = search needs
 
 found-requires : tie.Need-found-requires
+unfolding codeOf
 found-requires c κs = search needs
 
 returns : tie.Need-returns
@@ -31,6 +32,7 @@ add-found-2 : tie.Need-add-found-2
 add-found-2 c = search needs
 
 found-requires-2 : tie.Need-found-requires-2
+unfolding codeOf
 found-requires-2 c κs = search needs
 
 returns-2 : tie.Need-returns-2

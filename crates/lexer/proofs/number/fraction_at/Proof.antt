@@ -15,6 +15,7 @@ byte-at-requires : tie.Need-byte-at-requires
 byte-at-requires c κs = search needs
 
 found-requires : tie.Need-found-requires
+unfolding codeOf
 found-requires c κs = search needs
 
 returns : tie.Need-returns
@@ -51,6 +52,7 @@ digits-end-requires : tie.Need-digits-end-requires
 digits-end-requires c κs = search needs
 
 found-requires-2 : tie.Need-found-requires-2
+unfolding codeOf
 found-requires-2 c κs = search needs
 
 returns-3 : tie.Need-returns-3

@@ -31,6 +31,7 @@ unfolding passes
 returns c = rw (c .refused .ensures, prefixed-at _ _ NumHexadecimal NoHexDigit isHexDigit (c .before .before .before .run-end .ensures) (c .before .before .run-end2 .ensures), eq-eqb _ _ (c .before .if1 .taken)) refl
 
 found-requires : tie.Need-found-requires
+unfolding codeOf
 found-requires c κs = search needs
 
 returns-2 : tie.Need-returns-2

@@ -12,6 +12,7 @@ whitespace-requires : tie.Need-whitespace-requires
 whitespace-requires c κs = search needs
 
 found-requires : tie.Need-found-requires
+unfolding codeOf
 found-requires c κs = search needs
 
 returns : tie.Need-returns
@@ -21,6 +22,7 @@ returns c =
     rw (c .found .ensures, whitespace-at, ← run .ensures .lines, ← run .ensures .end, le-leb 2 (run .result .lines) (omega arith)) refl
 
 found-requires-2 : tie.Need-found-requires-2
+unfolding codeOf
 found-requires-2 c κs = search needs
 
 returns-2 : tie.Need-returns-2

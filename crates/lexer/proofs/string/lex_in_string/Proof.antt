@@ -1,9 +1,10 @@
 -- The byte here tells the cases apart; each is a law of `Quoted`.
-use mathlib.Core.Path.{refl}
+use mathlib.Core.Path.{refl, sym, _∙_}
+use mathlib.Core.Logic.{⊎-elim}
 use native.Mathlib.Omega.{arith}
 use Rattle.rules.proofs.Runs.{begins-is}
 use Rattle.token.specs.Codes.{codeOf}
-use Rattle.lexer.proofs.Quoted.{quote-le, quoted-escape, string-close, string-hole, string-inner}
+use Rattle.lexer.proofs.Quoted.{quote-le, quoted-escape, quoted-hole, quoted-inner, string-close, string-quote}
 use borrow.Author.Needs.{needs}
 use Rattle.lexer.proofs.string.lex_in_string.Statement.{statement}
 use Rattle.lexer.proofs.string.lex_in_string.Tie as tie
@@ -24,24 +25,31 @@ quote-length-requires : tie.Need-quote-length-requires
 quote-length-requires c κs = search needs
 
 add-found : tie.Need-add-found
-add-found c = omega (arith, quote-le (c .before .before .before .before .before .before .args .triple), c .quote-length .ensures)
+add-found c = omega (arith, quote-le (c .before .before .before .before .before .before .before .args .triple), c .quote-length .ensures)
 
 found-requires : tie.Need-found-requires
+unfolding codeOf
 found-requires c κs = search needs
 
 returns-2 : tie.Need-returns-2
 unfolding codeOf
-returns-2 c = rw (c .found .ensures, c .before .quote-length .ensures) (string-close (c .before .before .before .before .before .before .before .args .text .now) (c .before .before .before .before .before .before .before .args .at) (c .before .before .before .before .before .before .before .args .stop) (c .before .before .before .before .before .before .before .args .triple) (rw (c .before .before .before .closes .ensures) at (c .before .before .if2 .taken)))
+returns-2 c =
+    let a = c .before .before .before .before .before .before .before .before .args in
+    rw (c .found .ensures, c .before .quote-length .ensures)
+    (string-close (a .text .now) (a .at) (a .stop) (a .triple) (c .before .before .before .before .if2 .taken) (sym (c .before .before .before .closes .ensures) ∙ c .before .before .if3 .taken))
 
 add-found-2 : tie.Need-add-found-2
 add-found-2 c = search needs
 
 found-requires-2 : tie.Need-found-requires-2
+unfolding codeOf
 found-requires-2 c κs = search needs
 
 returns-3 : tie.Need-returns-3
 unfolding codeOf
-returns-3 c = rw (c .found2 .ensures) (string-hole (c .before .before .before .before .before .before .before .args .text .now) (c .before .before .before .before .before .before .before .args .at) (c .before .before .before .before .before .before .before .args .stop) (c .before .before .before .before .before .before .before .args .triple) (c .before .before .before .before .if1 .left) (c .before .if3 .taken))
+returns-3 c =
+    let a = c .before .before .before .before .before .before .args in
+    rw (c .found2 .ensures) (quoted-hole (a .text .now) (a .at) (a .stop) (a .triple) (c .before .before .before .if1 .left) (c .before .before .if2 .left) (c .before .if4 .taken))
 
 add-inner-end : tie.Need-add-inner-end
 add-inner-end c = search needs
@@ -50,11 +58,19 @@ inner-end-requires : tie.Need-inner-end-requires
 inner-end-requires c κs = search needs
 
 found-requires-3 : tie.Need-found-requires-3
+unfolding codeOf
 found-requires-3 c κs = search needs
 
+-- where the branches meet there is a quote that does not close, or neither a quote nor the stop
 returns-4 : tie.Need-returns-4
 unfolding codeOf
-returns-4 c = rw (c .found3 .ensures, c .before .inner-end .ensures) (string-inner (c .before .before .before .before .before .before .before .before .args .text .now) (c .before .before .before .before .before .before .before .before .args .at) (c .before .before .before .before .before .before .before .before .args .stop) (c .before .before .before .before .before .before .before .before .args .triple) (c .before .before .before .before .before .if1 .left) (rw (c .before .before .before .before .closes .ensures) at (c .before .before .before .if2 .left)) (c .before .before .if3 .left))
+returns-4 c =
+    let a = c .before .before .before .before .before .before .args in
+    rw (c .found3 .ensures, c .before .inner-end .ensures)
+    (⊎-elim
+    (λ w. string-quote (a .text .now) (a .at) (a .stop) (a .triple) (w .0 .taken) (sym (w .1 .ensures) ∙ w .2 .left))
+    (λ w. quoted-inner (a .text .now) (a .at) (a .stop) (a .triple) (c .before .before .before .if1 .left) (w .0 .left) (w .1 .left))
+    (c .before .before .if2 .came))
 
 pub lex-in-string-spec : {M : Type 1} → statement M
 lex-in-string-spec =

@@ -24,6 +24,7 @@ unfolding codeOf
 returns-4 c = c .found .ensures ∙ single-one (now (c .before .before .before .before .before .before .args .text)) (c .before .before .before .before .before .before .args .at) (omega arith) (c .before .before .if2 .left) (omega arith)
 
 pub single-escape-spec : {M : Type 1} → statement M
+unfolding codeOf
 single-escape-spec =
     tie.close
     (tie.spec

@@ -30,6 +30,7 @@ unfolding passes
 returns-2 c = rw (c .refused .ensures, delim-at _ _ _ (c .before .before .before .run-end .ensures), ← (c .before .before .byte-at .ensures), ne-eqb _ _ (c .before .if1 .left)) refl
 
 pub unicode-delim-spec : {M : Type 1} → statement M
+unfolding codeOf
 unicode-delim-spec =
     tie.close
     (tie.spec

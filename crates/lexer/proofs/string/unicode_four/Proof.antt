@@ -17,6 +17,7 @@ unfolding passes
 returns-2 c = c .refused .ensures ∙ four-few _ _ _ (c .before .before .run-end .ensures) (omega arith)
 
 pub unicode-four-spec : {M : Type 1} → statement M
+unfolding codeOf
 unicode-four-spec =
     tie.close
     (tie.spec

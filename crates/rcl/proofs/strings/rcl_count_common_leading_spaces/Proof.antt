@@ -23,14 +23,14 @@ not-answered-requires c κs = search needs
 returns : tie.Need-returns
 returns c =
     let told = c .before .before .answer .given .1 in
-    rw (c .answered .ensures, ← c .before .before .before .before .count-common-leading-spaces .ensures, told)
+    (rw (c .answered .ensures .0, ← c .before .before .before .before .count-common-leading-spaces .ensures, told), c .answered .ensures .1)
 
 returns-2 : tie.Need-returns-2
 returns-2 c =
     let a = c .before .before .before .before .before .before .before .before .args in
     let told = c .before .before .answer2 .given .1 in
     let none = note-indent (now (a .text)) (now (a .kinds)) (now (a .words)) (a .count) in
-    rw (c .not-answered .ensures, ← none .same, ← c .before .before .before .before .count-common-leading-spaces .ensures, told)
+    (rw (c .not-answered .ensures .0, ← none .same, ← c .before .before .before .before .count-common-leading-spaces .ensures, told), c .not-answered .ensures .1)
 
 pub rcl-count-common-leading-spaces-spec : {M : Type 1} → statement M
 rcl-count-common-leading-spaces-spec =

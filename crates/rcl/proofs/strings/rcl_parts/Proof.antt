@@ -23,12 +23,15 @@ returns c =
     let a = s .before .before .before .before .before .before .before .args in
     let listed = s .parts .ensures in
     let none = note-parts (now (a .kinds)) (now (a .words)) (a .count) (a .place) (now (a .pkinds)) (now (a .pwords)) in
-    record {
-      answered = rw (c .parted .ensures .0, listed .answered) (none .same);
-      counted = rw (c .parted .ensures .1) (listed .counted);
-      kinds = listed .kinds;
-      words = listed .words;
-    }
+    let words = c .parted .ensures in (
+      record {
+        answered = rw (words .answered, listed .answered) (none .same);
+        counted = rw (words .counted) (listed .counted);
+        kinds = listed .kinds;
+        words = listed .words;
+      },
+      words .canonical,
+    )
 
 pub rcl-parts-spec : {M : Type 1} → statement M
 rcl-parts-spec =

@@ -27,14 +27,14 @@ not-answered-requires c κs = search needs
 returns : tie.Need-returns
 returns c =
     let told = c .before .before .answer .given .1 in
-    rw (c .answered .ensures, ← c .before .before .before .before .scalar-value .ensures, told)
+    (rw (c .answered .ensures .0, ← c .before .before .before .before .scalar-value .ensures, told), c .answered .ensures .1)
 
 returns-2 : tie.Need-returns-2
 returns-2 c =
     let a = c .before .before .before .before .before .before .args in
     let told = c .before .before .answer2 .given .1 in
     let none = note-scalar (now (a .text)) (spanOf (a .low) (a .high)) (a .kind) in
-    rw (c .not-answered .ensures, ← none .same, ← c .before .before .before .before .scalar-value .ensures, told)
+    (rw (c .not-answered .ensures .0, ← none .same, ← c .before .before .before .before .scalar-value .ensures, told), c .not-answered .ensures .1)
 
 pub rcl-scalar-value-spec : {M : Type 1} → statement M
 rcl-scalar-value-spec =

@@ -28,10 +28,8 @@ returns : tie.Need-returns
 returns c =
     let wrote = c .before .before .before .before .before .before .unescape-into .ensures in
     let told = c .before .before .answer .given .1 in
-    record {
-      answered = rw (c .answered .ensures, ← wrote .answered, told);
-      output = wrote .output;
-    }
+    let words = c .answered .ensures in
+    (record { answered = rw (words .0, ← wrote .answered, told); output = wrote .output }, words .1)
 
 same-length-2 : tie.Need-same-length-2
 same-length-2 c = search needs
@@ -42,10 +40,8 @@ returns-2 c =
     let wrote = c .before .before .before .before .before .before .unescape-into .ensures in
     let told = c .before .before .answer2 .given .1 in
     let none = note-unescape (now (a .text)) (spanOf (a .low) (a .high)) (a .kind) (now (a .output)) (a .position) in
-    record {
-      answered = rw (c .not-answered .ensures, ← none .same, ← wrote .answered, told);
-      output = wrote .output;
-    }
+    let words = c .not-answered .ensures in
+    (record { answered = rw (words .0, ← none .same, ← wrote .answered, told); output = wrote .output }, words .1)
 
 pub rcl-unescape-into-spec : {M : Type 1} → statement M
 rcl-unescape-into-spec =

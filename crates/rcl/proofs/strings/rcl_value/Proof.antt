@@ -26,13 +26,16 @@ returns c =
     let a = s .before .before .before .before .before .before .before .before .before .before .args in
     let found = s .value .ensures in
     let none = note-value (now (a .text)) (now (a .kinds)) (now (a .words)) (a .count) (a .place) (now (a .pkinds)) (now (a .pwords)) (now (a .output)) (a .position) in
-    record {
-      answered = rw (c .valued .ensures .0, found .answered) (none .same);
-      counted = rw (c .valued .ensures .1) (found .counted);
-      kinds = found .kinds;
-      words = found .words;
-      output = found .output;
-    }
+    let words = c .valued .ensures in (
+      record {
+        answered = rw (words .answered, found .answered) (none .same);
+        counted = rw (words .counted) (found .counted);
+        kinds = found .kinds;
+        words = found .words;
+        output = found .output;
+      },
+      words .canonical,
+    )
 
 pub rcl-value-spec : {M : Type 1} → statement M
 rcl-value-spec =

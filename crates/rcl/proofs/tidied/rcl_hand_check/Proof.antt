@@ -32,7 +32,8 @@ returns c =
     let a = c .before .before .before .before .before .before .before .args in
     let told = ap checkedMeant (c .before .enum-told .given .1) in
     let held = ap (handCheck (now (a .text)) (now (a .output))) (c .before .before .before .before .part .ensures) in
-    c .answered .ensures ∙ ap orZero (sym told ∙ c .before .before .before .check .ensures ∙ held)
+    let words = c .answered .ensures in
+    (words .0 ∙ ap orZero (sym told ∙ c .before .before .before .check .ensures ∙ held), words .1)
 
 returns-2 : tie.Need-returns-2
 returns-2 c =
@@ -40,7 +41,8 @@ returns-2 c =
     let told = ap checkedMeant (c .before .before .checked .given .1) in
     let held = ap (handCheck (now (a .text)) (now (a .output))) (c .before .before .before .before .before .part .ensures) in
     let none = note-hand (now (a .text)) (now (a .output)) (heldIn (a .which) (a .start) (a .end)) in
-    c .not-answered .ensures ∙ ap orZero (ap withoutNote (sym told ∙ c .before .before .before .before .check .ensures ∙ held) ∙ none .same)
+    let words = c .not-answered .ensures in
+    (words .0 ∙ ap orZero (ap withoutNote (sym told ∙ c .before .before .before .before .check .ensures ∙ held) ∙ none .same), words .1)
 
 pub rcl-hand-check-spec : {M : Type 1} → statement M
 rcl-hand-check-spec =

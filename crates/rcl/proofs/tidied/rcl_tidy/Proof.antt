@@ -25,7 +25,9 @@ same-length-5 : tie.Need-same-length-5
 same-length-5 c = search needs
 
 returns : tie.Need-returns
-returns c = rw (c .in-words .ensures) (c .before .before .before .before .before .before .before .before .before .before .before .before .tidy .ensures)
+returns c =
+    let tidied = c .before .before .before .before .before .before .before .before .before .before .before .before .tidy .ensures in
+    (rw (c .in-words .ensures .0) tidied, c .in-words .ensures .1)
 
 pub rcl-tidy-spec : {M : Type 1} → statement M
 rcl-tidy-spec =

@@ -13,7 +13,8 @@ returns c =
     let a = s .before .before .before .before .before .before .before .before .before .before .args in
     let counted = s .lex-tallied .ensures in
     let after : Lexed → Tally = afterCall (tallyBy (a .accepted) (a .refused) (a .steps)) in
-    (rw (c .in-words .ensures) (counted .0), counted .1 ∙ ap after (sym (c .in-words .ensures)))
+    let words = c .in-words .ensures in
+    (rw (words .0) (counted .0), (counted .1 ∙ ap after (sym (words .0)), words .1))
 
 pub rcl-lex-tallied-spec : {M : Type 1} → statement M
 rcl-lex-tallied-spec =

@@ -9,7 +9,8 @@ returns : tie.Need-returns
 returns c =
     let s = c .before in
     let a = s .before .before .args in
-    rw (c .kept-words .ensures, s .opening-refusal .ensures) (note-opening (a .doc) (now (a .text)))
+    let words = c .kept-words .ensures in
+    (rw (words .0, s .opening-refusal .ensures) (note-opening (a .doc) (now (a .text))), words .1)
 
 pub rcl-walker-open-spec : {M : Type 1} → statement M
 rcl-walker-open-spec = tie.close (tie.spec (λ c κs. search needs) (λ c κs. search needs) returns)

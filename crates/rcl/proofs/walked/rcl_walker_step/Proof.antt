@@ -1,5 +1,4 @@
 -- What `step_at` ensures of the walker whose refusal `kept_by` ensures, in words.
-use mathlib.Core.Path.{_∙_}
 use borrow.Author.Needs.{needs}
 use Rattle.rcl.proofs.walked.rcl_walker_step.Statement.{statement}
 use Rattle.rcl.proofs.walked.rcl_walker_step.Tie as tie
@@ -10,14 +9,16 @@ returns c =
     let k = s .before .before .before in
     let words = c .step-words .ensures in
     let walks = s .step-at .ensures in
-    rw (← k .kept-by .ensures)
-    (record {
-      answer = words .answer ∙ walks .answer;
-      position = words .position ∙ walks .position;
-      depth = words .depth ∙ walks .depth;
-      kinds = walks .kinds;
-      words = walks .words;
-    })
+    rw (← k .kept-by .ensures) (
+      record {
+        answer = rw (words .answer) (walks .answer);
+        position = rw (words .position) (walks .position);
+        depth = rw (words .depth) (walks .depth);
+        kinds = walks .kinds;
+        words = walks .words;
+      },
+      words .canonical,
+    )
 
 pub rcl-walker-step-spec : {M : Type 1} → statement M
 rcl-walker-step-spec =

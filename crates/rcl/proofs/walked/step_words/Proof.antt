@@ -4,19 +4,19 @@ use Rattle.rcl.proofs.walked.step_words.Statement.{statement}
 use Rattle.rcl.proofs.walked.step_words.Tie as tie
 
 returns : tie.Need-returns
-returns c = rw (c .before .before .before .answer .given .1) (c .stepped .ensures)
+returns c = rw (c .before .before .answer .given .1) (c .lexeme-words .ensures)
 
 returns-2 : tie.Need-returns-2
-returns-2 c = rw (c .before .before .enum-told .given .1) (c .stepped2 .ensures)
+returns-2 c = rw (c .before .enum-told .given .1) (c .ended-words .ensures)
 
 returns-3 : tie.Need-returns-3
-returns-3 c = rw (c .before .before .before .answer2 .given .1) (c .stepped3 .ensures)
+returns-3 c = rw (c .before .before .answer2 .given .1) (c .refusal-words .ensures)
 
 pub step-words-spec : {M : Type 1} → statement M
 step-words-spec =
     tie.close
     (tie.spec
-    (λ c. search needs) (λ c. search needs) (λ c κs. search needs) (λ c. search needs) (λ c κs. search needs) (λ c κs. search needs)
-    (λ c. search needs) (λ c. search needs) (λ c κs. search needs) returns
+    (λ c. search needs) (λ c κs. search needs) (λ c. search needs) (λ c κs. search needs) (λ c. search needs) (λ c κs. search needs)
+    returns
     returns-2
     returns-3)

@@ -1,0 +1,215 @@
+//! include/rcl.h, src/raw.rs and the exports of crates/rcl say the same: every call with its
+//! arguments in order, and every struct with its fields.
+
+use std::collections::BTreeMap;
+use std::fs;
+use std::path::{Path, PathBuf};
+
+/// A name and a type, written as in Rust.
+type Named = (String, String);
+
+#[derive(Debug, Default)]
+struct Declared {
+    structs: BTreeMap<String, Vec<Named>>,
+    /// Arguments, and after them the result.
+    calls: BTreeMap<String, (Vec<Named>, String)>,
+}
+
+impl Declared {
+    /// The fields of a result, those of a struct inside it among them.
+    fn fields(&self, result: &str) -> Vec<Named> {
+        let Some(fields) = self.structs.get(result) else {
+            return vec![(String::new(), result.to_string())];
+        };
+        let expanded =
+            fields
+                .iter()
+                .flat_map(|(name, kind)| match self.structs.contains_key(kind) {
+                    true => self.fields(kind),
+                    false => vec![(name.clone(), kind.clone())],
+                });
+        expanded.collect()
+    }
+}
+
+fn top() -> PathBuf {
+    Path::new(env!("CARGO_MANIFEST_DIR")).join("../..")
+}
+
+fn read(path: &Path) -> String {
+    fs::read_to_string(path).unwrap_or_else(|error| panic!("{}: {error}", path.display()))
+}
+
+/// What stands after each `start`, up to the next `end`, and what follows that.
+fn each<'s>(
+    source: &'s str,
+    start: &'s str,
+    end: char,
+) -> impl Iterator<Item = (&'s str, &'s str)> {
+    let found = source.split(start).skip(1);
+    found.map(move |rest| rest.split_once(end).expect("It is closed."))
+}
+
+fn words(source: &str) -> String {
+    source.split_whitespace().collect::<Vec<_>>().join(" ")
+}
+
+// Rust, and Rattle's exports.
+
+fn without_line_comments(source: &str) -> String {
+    let lines = source.lines().map(|line| line.split("//").next().unwrap());
+    lines.collect::<Vec<_>>().join("\n")
+}
+
+/// `name: type` with a comma after each.
+fn named(source: &str) -> Vec<Named> {
+    let pairs = source.split(',').filter_map(|field| field.split_once(':'));
+    let named = pairs.map(|(name, kind)| (words(name).replace("pub ", ""), words(kind)));
+    named.collect()
+}
+
+fn declared_in_rust(source: &str) -> Declared {
+    let source = without_line_comments(source);
+    let mut declared = Declared::default();
+    for (head, _) in each(&source, "pub struct ", '}') {
+        let (name, fields) = head.split_once('{').expect("A struct has fields.");
+        declared.structs.insert(words(name), named(fields));
+    }
+    for (head, rest) in each(&source, "fn rcl_", ')') {
+        let (name, arguments) = head.split_once('(').expect("A call has arguments.");
+        let result = rest
+            .trim_start()
+            .strip_prefix("-> ")
+            .expect("A call has a result.");
+        let result = result.split([';', '\n', ' ']).next().unwrap();
+        let call = (named(arguments), result.to_string());
+        declared.calls.insert(format!("rcl_{name}"), call);
+    }
+    declared
+}
+
+/// A slice is a pointer and a length.
+fn slices_taken_apart(arguments: &[Named]) -> Vec<String> {
+    let taken_apart = arguments.iter().flat_map(|(_, kind)| match &kind[..] {
+        "&[u8]" => vec!["*const u8", "usize"],
+        "&[u64]" => vec!["*const u64", "usize"],
+        "&mut [u8]" => vec!["*mut u8", "usize"],
+        "&mut [u64]" => vec!["*mut u64", "usize"],
+        plain => vec![plain],
+    });
+    taken_apart.map(String::from).collect()
+}
+
+// C.
+
+fn without_block_comments(source: &str) -> String {
+    let parts = source
+        .split("/*")
+        .map(|part| part.split_once("*/").map_or(part, |(_, rest)| rest));
+    parts.collect()
+}
+
+/// `rcl_lexed` is `Lexed` in Rust.
+fn rust_type(kind: &str) -> String {
+    match kind {
+        "uint64_t" => "u64".to_string(),
+        "uint32_t" => "u32".to_string(),
+        "uint8_t" => "u8".to_string(),
+        "uintptr_t" => "usize".to_string(),
+        "bool" => "bool".to_string(),
+        other => match other.strip_prefix("rcl_") {
+            Some(name) => name[..1].to_uppercase() + &name[1..],
+            None => panic!("an unknown type: {other}"),
+        },
+    }
+}
+
+/// `const uint8_t *text`, `uint8_t *kinds` or `uint32_t doc`.
+fn c_argument(argument: &str) -> Named {
+    let argument = words(argument);
+    let (kind, name) = argument.rsplit_once(' ').expect("A type and a name.");
+    match (kind.strip_prefix("const "), name.strip_prefix('*')) {
+        (Some(kind), Some(name)) => (name.to_string(), format!("*const {}", rust_type(kind))),
+        (None, Some(name)) => (name.to_string(), format!("*mut {}", rust_type(kind))),
+        _ => (name.to_string(), rust_type(kind)),
+    }
+}
+
+/// `uint64_t low, high`.
+fn c_fields(field: &str) -> Vec<Named> {
+    let field = words(field);
+    let Some((kind, names)) = field.split_once(' ') else {
+        return Vec::new();
+    };
+    let named = names
+        .split(", ")
+        .map(|name| (name.to_string(), rust_type(kind)));
+    named.collect()
+}
+
+fn declared_in_c(source: &str) -> Declared {
+    let source = without_block_comments(source);
+    let mut declared = Declared::default();
+    for (head, _) in each(&source, "typedef struct ", '}') {
+        let (name, fields) = head.split_once('{').expect("A struct has fields.");
+        let fields = fields.split(';').flat_map(c_fields).collect();
+        declared.structs.insert(rust_type(name.trim()), fields);
+    }
+    for call in source.split(';').filter_map(|part| part.split_once('(')) {
+        let mut before = call.0.split_whitespace().rev();
+        let (name, result) = (before.next().unwrap(), before.next().unwrap());
+        let arguments = call
+            .1
+            .trim_end()
+            .trim_end_matches(')')
+            .split(',')
+            .map(c_argument);
+        let call = (arguments.collect(), rust_type(result));
+        declared.calls.insert(name.to_string(), call);
+    }
+    declared
+}
+
+fn header() -> Declared {
+    declared_in_c(&read(&top().join("include/rcl.h")))
+}
+
+fn exports() -> Declared {
+    let files = fs::read_dir(top().join("crates/rcl/src")).expect("The exports stand there.");
+    let sources = files.map(|file| read(&file.expect("It can be listed.").path()));
+    declared_in_rust(&sources.collect::<Vec<_>>().join("\n"))
+}
+
+#[test]
+fn the_header_and_rust() {
+    let (header, raw) = (header(), declared_in_rust(include_str!("../src/raw.rs")));
+    assert_eq!(header.calls.len(), 14);
+    assert_eq!(header.structs.len(), 8);
+    assert_eq!(header.calls, raw.calls);
+    assert_eq!(header.structs, raw.structs);
+}
+
+#[test]
+fn the_header_and_the_exports() {
+    let (header, exports) = (header(), exports());
+    let names = |declared: &Declared| declared.calls.keys().cloned().collect::<Vec<_>>();
+    assert_eq!(names(&header), names(&exports));
+    for (name, (arguments, result)) in &header.calls {
+        let (slices, exported) = &exports.calls[name];
+        let kinds: Vec<_> = arguments.iter().map(|(_, kind)| kind.clone()).collect();
+        assert_eq!(kinds, slices_taken_apart(slices), "{name}");
+        compare_fields(name, &header.fields(result), &exports.fields(exported));
+    }
+}
+
+/// The exports have names without `_`, and `output` for `in_output`.
+fn compare_fields(call: &str, header: &[Named], exports: &[Named]) {
+    assert_eq!(header.len(), exports.len(), "{call}");
+    for ((name, kind), (exported, exported_kind)) in header.iter().zip(exports) {
+        assert!(
+            name.replace('_', "").ends_with(&exported[..]),
+            "{call}: {name}"
+        );
+        assert_eq!(kind, exported_kind, "{call}: {name}");
+    }
+}

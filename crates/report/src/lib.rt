@@ -1,0 +1,8 @@
+// What the programs do: they read a text from standard input, and write its listing, its tidied text, or the refusal's line to standard output.
+mod input;
+mod listed;
+mod print;
+mod tidied;
+
+pub use listed::print_listing;
+pub use tidied::print_tidied;

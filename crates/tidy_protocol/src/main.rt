@@ -1,0 +1,4 @@
+// The tidied text of a protocol: examples/zstack.rcl.
+fn main() {
+    report::print_tidied();
+}
