@@ -1,153 +1,120 @@
-//! One driver for both sides: the same texts, the same clock, in turn.
-//!   driver [--sizes]
+//! One driver for both sides: the same text, the same clock, in turn. Prints a
+//! line for each time; report.rs makes the tables. A row has a process of its own,
+//! so that no row finds the allocator as another left it.
+//!   driver rows TABLE...          the rows of the tables
+//!   driver SETTING TABLE ROW      the times of a row
 
 mod call;
+mod clock;
+mod rows;
 mod texts;
 
 use std::hint::black_box;
-use std::time::Instant;
 
-use call::Lists;
-use published::lexer::lex;
+use call::Lent;
+use clock::{Clock, Row, Side};
+use published::lexer::{lex, Lexeme};
 use published::source::DocId;
 
-/// A row ends after so many rounds, or earlier once it has taken so long.
-const MOST_ROUNDS: usize = 200;
-const LEAST_ROUNDS: usize = 5;
-const ENOUGH_SECONDS: f64 = 2.0;
-
-/// The least seconds that each side took.
-struct Best {
-    rust: f64,
-    ours: f64,
-}
-
-/// The best of several rounds, the two sides in turn, so that a busy machine
-/// hinders both.
-fn best(mut rust: impl FnMut(), mut ours: impl FnMut()) -> Best {
-    let mut best = Best {
-        rust: f64::INFINITY,
-        ours: f64::INFINITY,
-    };
-    let begun = Instant::now();
-    for round in 0..MOST_ROUNDS {
-        if round >= LEAST_ROUNDS && begun.elapsed().as_secs_f64() > ENOUGH_SECONDS {
-            break;
-        }
-        best.rust = best.rust.min(seconds(&mut rust));
-        best.ours = best.ours.min(seconds(&mut ours));
-    }
-    best
-}
-
-fn seconds(work: &mut impl FnMut()) -> f64 {
-    let begun = Instant::now();
-    work();
-    begun.elapsed().as_secs_f64()
-}
+// Functions are aligned at 16 bytes. The drivers have 0 to 48 bytes here, so that
+// each function stands at each place relative to the processor's lines of 64.
+std::arch::global_asm!(
+    ".section .text.shift,\"axR\",@progbits",
+    ".balign 64",
+    concat!(".space ", env!("BENCH_SHIFT")),
+    ".text",
+);
 
 /// The Rust's whole way from bytes to a list.
-fn rust_lexes(text: &[u8]) -> usize {
+fn rust_lexes(text: &[u8]) -> Vec<Lexeme> {
     let text = std::str::from_utf8(text).expect("The texts are UTF-8.");
-    let list = lex(DocId(1), text).expect("The texts are accepted.");
-    black_box(&list).len()
+    lex(DocId(1), text).expect("The texts are accepted.")
 }
 
-fn lexing(name: &str, text: &[u8]) {
-    let lexemes = rust_lexes(text);
-    let mut lists = Lists::touched(lexemes);
-    assert_eq!(lists.lex(text), lexemes as u64, "Both sides list the same.");
-    let best = best(
-        || {
-            black_box(rust_lexes(black_box(text)));
-        },
-        || {
-            black_box(lists.lex(black_box(text)));
-        },
-    );
-    print_row(name, text.len(), lexemes, &best);
-}
+/// The largest block that glibc's allocator learns to keep.
+const KEPT: usize = (32 << 20) - (64 << 10);
 
-fn checking(name: &str, text: &[u8]) {
-    let best = best(
-        || {
-            black_box(std::str::from_utf8(black_box(text)).is_ok());
-        },
-        || {
-            black_box(call::is_utf8(black_box(text)));
-        },
-    );
-    print_row(name, text.len(), 0, &best);
+/// Once a large block was freed, the allocator no longer gives each one up to that
+/// size back to the system. A list that it can keep finds it in that state, as in
+/// a program that has run for a while: it is the better one for the Rust.
+fn settle_allocator(list: Vec<Lexeme>) {
+    if list.capacity() * size_of::<Lexeme>() < KEPT {
+        black_box(Vec::<u8>::with_capacity(KEPT));
+    }
 }
 
 /// How fast the same bytes can be copied: nothing that reads them all and writes
-/// as many can be faster.
-fn copying(name: &str, text: &[u8]) {
-    let mut copy = vec![0; text.len()];
-    let mut work = || {
+/// as many can be faster. It has no other side that takes its place in the caches.
+fn copying(clock: &mut Clock, row: &Row, text: &[u8]) {
+    let mut copy = vec![0xff; text.len()];
+    let side = Side::new("copy", || {
         copy.copy_from_slice(black_box(text));
         black_box(&copy);
-    };
-    let times = (0..MOST_ROUNDS).map(|_| seconds(&mut work));
-    let least = times.fold(f64::INFINITY, f64::min);
-    let speed = megabytes_per_second(text.len(), least);
-    println!("{name:<28} {:>9} {:>9} {speed:>10.0}", text.len(), "");
+    });
+    clock.measure(row, &mut [side]);
 }
 
-fn megabytes_per_second(bytes: usize, seconds: f64) -> f64 {
-    bytes as f64 / seconds / 1e6
+fn lexing(clock: &mut Clock, row: &Row, text: &[u8]) {
+    let list = rust_lexes(text);
+    let lexemes = list.len();
+    settle_allocator(list);
+    let mut lent = Lent::touched(lexemes, 0);
+    let listed = lent.lex(text).lexemes;
+    assert_eq!(listed, lexemes as u64, "Both sides list the same.");
+    let mut sides = [
+        Side::new("rust", || rust_lexes(black_box(text))),
+        Side::new("ours", || lent.lex(black_box(text))),
+    ];
+    clock.measure(&row.with_lexemes(lexemes), &mut sides);
 }
 
-fn print_header() {
-    println!(
-        "{:<28} {:>9} {:>9} {:>10} {:>10} {:>7}",
-        "text", "bytes", "lexemes", "Rust MB/s", "ours MB/s", "ratio"
-    );
+fn checking(clock: &mut Clock, row: &Row, text: &[u8]) {
+    let mut sides = [
+        Side::new("rust", || std::str::from_utf8(black_box(text)).is_ok()),
+        Side::new("ours", || call::is_utf8(black_box(text))),
+    ];
+    clock.measure(row, &mut sides);
 }
 
-fn print_row(name: &str, bytes: usize, lexemes: usize, best: &Best) {
-    let rust = megabytes_per_second(bytes, best.rust);
-    let ours = megabytes_per_second(bytes, best.ours);
-    let ratio = best.rust / best.ours;
-    println!("{name:<28} {bytes:>9} {lexemes:>9} {rust:>10.0} {ours:>10.0} {ratio:>7.2}");
+/// A call that has no counterpart in the Rust, beside our lexing of the same text.
+fn calling(clock: &mut Clock, row: &Row, text: &[u8], call: fn(&mut Lent, &[u8]) -> u64) {
+    let lexemes = rust_lexes(text).len();
+    let mut lexer = Lent::touched(lexemes, 0);
+    let mut lent = Lent::touched(lexemes, 2 * text.len());
+    lent.lex(text);
+    let mut sides = [
+        Side::new("lexing", || lexer.lex(black_box(text))),
+        Side::new("ours", || call(&mut lent, black_box(text))),
+    ];
+    clock.measure(&row.with_lexemes(lexemes), &mut sides);
 }
 
-/// The size of most texts.
-const USUAL: usize = 4 << 20;
-
-fn table() {
-    print_header();
-    for (name, text) in texts::all(USUAL) {
-        lexing(name, &text);
+fn measure(setting: &str, table: &str, name: &str) {
+    let text = rows::text(table, name);
+    let row = &Row::new(setting, table, name, text.len());
+    let clock = &mut Clock::new();
+    match table {
+        "check" => checking(clock, row, &text),
+        "tidy" => calling(clock, row, &text, Lent::tidy),
+        "values" => calling(clock, row, &text, Lent::values),
+        "walker" => calling(clock, row, &text, Lent::walk),
+        _ => lexing(clock, row, &text),
     }
-    let ascii = texts::move_table(USUAL);
-    let mixed = texts::mixed_notes(USUAL);
-    checking("UTF-8 check, move table", &ascii);
-    checking("UTF-8 check, mixed notes", &mixed);
-    copying("copy of the move table", &ascii);
+    copying(clock, row, &text);
 }
 
-const SIZES: [usize; 8] = [
-    4 << 10,
-    16 << 10,
-    64 << 10,
-    256 << 10,
-    1 << 20,
-    4 << 20,
-    16 << 20,
-    64 << 20,
-];
-
-fn sizes() {
-    print_header();
-    for size in SIZES {
-        lexing("move table", &texts::move_table(size));
+fn print_rows(table: &str) {
+    for name in rows::names(table) {
+        println!("{table}\t{name}");
     }
 }
 
 fn main() {
-    match std::env::args().nth(1).as_deref() {
-        Some("--sizes") => sizes(),
-        _ => table(),
+    let words: Vec<String> = std::env::args().skip(1).collect();
+    let words: Vec<&str> = words.iter().map(String::as_str).collect();
+    match words[..] {
+        ["rows", ref tables @ ..] => tables.iter().for_each(|table| print_rows(table)),
+        [setting, table, name] => measure(setting, table, name),
+        _ => panic!("driver rows TABLE... | driver SETTING TABLE ROW"),
     }
 }

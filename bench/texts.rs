@@ -1,22 +1,13 @@
 //! The texts that are measured, each of at least the size asked for: whole lines
 //! are repeated with changing numbers.
 
-pub fn all(size: usize) -> Vec<(&'static str, Vec<u8>)> {
-    vec![
-        ("move table", move_table(size)),
-        ("long comments", comments(size)),
-        ("nested format strings", format_strings(size)),
-        ("deep indents", indents(size)),
-        ("2^20 spaces", vec![b' '; 1 << 20]),
-        ("long strings", strings(size)),
-        ("ASCII notes", ascii_notes(size)),
-        ("mixed UTF-8 notes", mixed_notes(size)),
-    ]
-}
+/// More than any line has.
+const LINE: usize = 4096;
 
-/// Lines until the text has the size; `line` gets the line's number.
+/// Lines until the text has the size; `line` gets the line's number. The text does
+/// not grow, so that it leaves no holes in the memory from which the Rust's list comes.
 fn lines(size: usize, line: impl Fn(usize) -> String) -> Vec<u8> {
-    let mut text = String::new();
+    let mut text = String::with_capacity(size + LINE);
     let mut number = 0;
     while text.len() < size {
         text.push_str(&line(number));
@@ -32,30 +23,30 @@ pub fn move_table(size: usize) -> Vec<u8> {
     })
 }
 
-fn comments(size: usize) -> Vec<u8> {
+pub fn comments(size: usize) -> Vec<u8> {
     let words = "the stage waits until the lamp is warm and the cover is shut; ".repeat(16);
     lines(size, |n| format!("// {n}: {words}\n"))
 }
 
-fn format_strings(size: usize) -> Vec<u8> {
+pub fn format_strings(size: usize) -> Vec<u8> {
     lines(size, |n| {
         format!("f\"row {{a + f\"col {{b{n} + f\"cell {{c}} of {{d}}\"}}!\"}} end\",\n")
     })
 }
 
-fn indents(size: usize) -> Vec<u8> {
+pub fn indents(size: usize) -> Vec<u8> {
     lines(size, |n| {
         let indent = " ".repeat(40 + n % 80);
         format!("{indent}step{},\n", n % 10)
     })
 }
 
-fn strings(size: usize) -> Vec<u8> {
+pub fn strings(size: usize) -> Vec<u8> {
     let words = "scan from the left edge to the right edge, then down by one field; ".repeat(16);
     lines(size, |n| format!("note{n} = \"{words}\";\n"))
 }
 
-fn ascii_notes(size: usize) -> Vec<u8> {
+pub fn ascii_notes(size: usize) -> Vec<u8> {
     lines(size, |n| {
         format!("note{n} = \"field {n}: looks good, scan again\"; // by hand\n")
     })
@@ -72,5 +63,20 @@ pub fn mixed_notes(size: usize) -> Vec<u8> {
     lines(size, |n| {
         let note = notes[n % notes.len()];
         format!("note{n} = \"{note} {n}\"; // {note}\n")
+    })
+}
+
+/// Indents to take off, a blank line, and each form of escape.
+pub fn triple_quoted(size: usize) -> Vec<u8> {
+    lines(size, |n| {
+        format!(
+            r#"note{n} = """
+    Step {n}: \"left\" edge,\tthen the right one
+      deeper by two, \u00b5m and \u{{1f52c}}
+
+    last line
+    """;
+"#
+        )
     })
 }

@@ -1,0 +1,70 @@
+//! Which rows each table has, and the text of each row.
+
+use crate::texts;
+
+/// The size of most texts.
+const USUAL: usize = 4 << 20;
+
+const ALL: [&str; 9] = [
+    "move table",
+    "long comments",
+    "nested format strings",
+    "deep indents",
+    "2^20 spaces",
+    "long strings",
+    "ASCII notes",
+    "mixed UTF-8 notes",
+    "triple-quoted strings",
+];
+const CHECKED: [&str; 2] = ["move table", "mixed UTF-8 notes"];
+const VALUED: [&str; 5] = [
+    "nested format strings",
+    "long strings",
+    "ASCII notes",
+    "mixed UTF-8 notes",
+    "triple-quoted strings",
+];
+const WALKED: [&str; 1] = ["move table"];
+const SIZES: [&str; 8] = [
+    "4 KiB", "16 KiB", "64 KiB", "256 KiB", "1 MiB", "4 MiB", "16 MiB", "64 MiB",
+];
+
+pub fn names(table: &str) -> &'static [&'static str] {
+    match table {
+        "lexing" | "tidy" => &ALL,
+        "check" => &CHECKED,
+        "values" => &VALUED,
+        "walker" => &WALKED,
+        "growth, move table" | "growth, mixed notes" => &SIZES,
+        _ => panic!("There is no table {table}."),
+    }
+}
+
+pub fn text(table: &str, name: &str) -> Vec<u8> {
+    match table {
+        "growth, move table" => texts::move_table(bytes(name)),
+        "growth, mixed notes" => texts::mixed_notes(bytes(name)),
+        _ => named(name),
+    }
+}
+
+fn bytes(size: &str) -> usize {
+    let (number, unit) = size.split_once(' ').expect("A size has a unit.");
+    let number: usize = number.parse().expect("A size has a number.");
+    number << if unit == "KiB" { 10 } else { 20 }
+}
+
+fn named(name: &str) -> Vec<u8> {
+    match name {
+        "move table" => texts::move_table(USUAL),
+        "long comments" => texts::comments(USUAL),
+        "nested format strings" => texts::format_strings(USUAL),
+        "deep indents" => texts::indents(USUAL),
+        "2^20 spaces" => vec![b' '; 1 << 20],
+        "long strings" => texts::strings(USUAL),
+        "ASCII notes" => texts::ascii_notes(USUAL),
+        "mixed UTF-8 notes" => texts::mixed_notes(USUAL),
+        "triple-quoted strings" => texts::triple_quoted(USUAL),
+        _ => panic!("There is no text {name}."),
+    }
+}
