@@ -9,7 +9,7 @@ use judge::arguments::arguments;
 use judge::generate::accepted::Supply;
 use judge::reference::{answer, Answer, Listed, AMPLE};
 use judge::refusal::Refusal;
-use judge::report::{expected_and_found, Damage, Ends, Report};
+use judge::report::{differing, quoted, Damage, Ends, Report};
 use judge::respace::respaced;
 use judge::source::{DocId, Span};
 
@@ -127,18 +127,18 @@ impl Comparison {
 
     fn one(&mut self, text: &[u8], name: &str, mut expected: Printed, found: Printed) {
         self.report.prepare(&mut expected);
-        let wrong = (expected != found).then(|| expected_and_found(&expected, &found));
-        let call = || format!("{name} of `{}`", text.escape_ascii());
+        let wrong = differing(&expected, &found);
+        let call = || format!("{name} of {}", quoted(text));
         self.report.record_call(text.len(), call, wrong);
     }
 
     fn finish(self) -> ExitCode {
         for (name, ends) in [("listing", self.listings), ("tidy", self.tidyings)] {
             println!("{name}");
-            ends.print();
-            ends.print_refusals(std::iter::once(2));
+            ends.print_lexing();
         }
-        self.report.finish()
+        self.report.print();
+        ExitCode::from(u8::from(self.report.differences > 0))
     }
 }
 
@@ -177,7 +177,7 @@ fn main() -> ExitCode {
     let tidy = arguments.rest.pop().unwrap();
     let listing = arguments.rest.pop().unwrap();
     let mut comparison = Comparison {
-        report: Report::new(arguments.self_test),
+        report: Report::new("printed", &arguments),
         listings: Ends::new(),
         tidyings: Ends::new(),
         listing,
