@@ -1,5 +1,5 @@
 /* RCL text: the exported calls of crates/rcl, each proved to answer as its contract says. No call allocates, keeps a pointer or reads beyond the lengths that it is given. Arrays that
-   are lent to one call must not overlap. */
+   are lent to one call must not overlap. In every result a flag is 0 or 1, and a word that says nothing is 0. */
 #ifndef RCL_H
 #define RCL_H
 
@@ -41,7 +41,7 @@ rcl_lexed rcl_lex(uint32_t doc, const uint8_t *text, uintptr_t len,
 bool rcl_is_identifier(const uint8_t *bytes, uintptr_t len);
 bool rcl_is_keyword(const uint8_t *bytes, uintptr_t len);
 
-/* A number, or a refusal. In this and the next two structs what is not said is 0; a refusal of these calls has no note. */
+/* A number, or a refusal. A refusal of this and of the next two structs has no note. */
 typedef struct rcl_answer {
     uint64_t refused;            /* 0: `count` is the answer; 1: refused */
     uint64_t number;             /* the refusal's number */
