@@ -1,5 +1,6 @@
 /* RCL text: the exported calls of crates/rcl, each proved to answer as its contract says. No call allocates, keeps a pointer or reads beyond the lengths that it is given. Arrays that
-   are lent to one call must not overlap. In every result a flag is 0 or 1, and a word that says nothing is 0. */
+   are lent to one call must not overlap. In every result a flag is 0 or 1, and a word that says nothing is 0.
+   `enum rcl_kind` names the kind codes, and RCL_SPAN_START, RCL_SPAN_END and RCL_SPAN_DOC read a span's two words. */
 #ifndef RCL_H
 #define RCL_H
 
@@ -14,14 +15,83 @@ extern "C" {
    Returns UINT64_MAX where they are UTF-8, else the offset at which the first bad sequence begins (document 01's refusal 1). */
 uint64_t rcl_utf8(const uint8_t *text, uintptr_t len);
 
-/* What lexing answers. A span's two words are low = start + (end mod 2^16) * 2^48 and high = end div 2^16 + id * 2^32. */
+/* The kinds of lexemes and of a string's parts; an array of kinds holds one code in each byte. The openers are 5 to 8, RCL_HOLE_OPEN, RCL_LPAREN, RCL_LBRACKET and RCL_LBRACE. */
+enum rcl_kind {
+    RCL_SPACE = 0,                    /* whitespace with fewer than two line feeds; only rcl_walker_step gives it */
+    RCL_BLANK = 1,                    /* whitespace with two line feeds or more */
+    RCL_SHEBANG = 2,                  /* `#!` to before the line feed */
+    RCL_LINE_COMMENT = 3,             /* `//` to before the line feed */
+    RCL_IDENT = 4,                    /* a name that is no keyword */
+    RCL_QUOTE_OPEN_PLAIN_DOUBLE = 5,  /* `"` */
+    RCL_QUOTE_OPEN_PLAIN_TRIPLE = 6,  /* `"""` */
+    RCL_QUOTE_OPEN_FORMAT_DOUBLE = 7, /* `f"` */
+    RCL_QUOTE_OPEN_FORMAT_TRIPLE = 8, /* `f"""` */
+    RCL_QUOTE_CLOSE = 9,              /* `"` or `"""` at the end of a string */
+    RCL_STRING_INNER = 10,            /* bytes of a string that are no escape sequence; a line feed only at its start */
+    RCL_ESCAPE_SINGLE = 11,           /* `\` and one byte */
+    RCL_ESCAPE_UNICODE4 = 12,         /* `\u` and four hexadecimal digits */
+    RCL_ESCAPE_UNICODE_DELIM = 13,    /* `\u{`, hexadecimal digits and `}` */
+    RCL_HOLE_OPEN = 14,               /* `{` of a hole; in a parts list the whole hole */
+    RCL_HOLE_CLOSE = 15,              /* `}` of a hole */
+    RCL_NUM_HEXADECIMAL = 16,         /* begins with `0x` */
+    RCL_NUM_BINARY = 17,              /* begins with `0b` */
+    RCL_NUM_DECIMAL = 18,
+    RCL_KW_AND = 19,
+    RCL_KW_ASSERT = 20,
+    RCL_KW_FALSE = 21,
+    RCL_KW_FOR = 22,
+    RCL_KW_ELSE = 23,
+    RCL_KW_IF = 24,
+    RCL_KW_IMPORT = 25,
+    RCL_KW_IN = 26,
+    RCL_KW_LET = 27,
+    RCL_KW_NOT = 28,
+    RCL_KW_NULL = 29,
+    RCL_KW_OR = 30,
+    RCL_KW_TRACE = 31,
+    RCL_KW_TRUE = 32,
+    RCL_LPAREN = 33,                  /* `(` */
+    RCL_RPAREN = 34,                  /* `)` */
+    RCL_LBRACKET = 35,                /* `[` */
+    RCL_RBRACKET = 36,                /* `]` */
+    RCL_LBRACE = 37,                  /* `{` */
+    RCL_RBRACE = 38,                  /* `}` */
+    RCL_LT = 39,                      /* `<` */
+    RCL_GT = 40,                      /* `>` */
+    RCL_LT_EQ = 41,                   /* `<=` */
+    RCL_GT_EQ = 42,                   /* `>=` */
+    RCL_EQ2 = 43,                     /* `==` */
+    RCL_NEQ = 44,                     /* `!=` */
+    RCL_THIN_ARROW = 45,              /* `->` */
+    RCL_FAT_ARROW = 46,               /* `=>` */
+    RCL_EQ1 = 47,                     /* `=` */
+    RCL_BANG = 48,                    /* `!` */
+    RCL_STAR = 49,                    /* `*` */
+    RCL_PLUS = 50,                    /* `+` */
+    RCL_COMMA = 51,                   /* `,` */
+    RCL_MINUS = 52,                   /* `-` */
+    RCL_DOT = 53,                     /* `.` */
+    RCL_DOT_DOT = 54,                 /* `..` */
+    RCL_DOT_DOT_DOT = 55,             /* `...` */
+    RCL_SLASH = 56,                   /* `/` */
+    RCL_COLON = 57,                   /* `:` */
+    RCL_SEMICOLON = 58,               /* `;` */
+    RCL_PIPE = 59                     /* `|` */
+};
+
+/* A span's two words are low = start + (end mod 2^16) * 2^48 and high = end div 2^16 + doc * 2^32. Each of these answers a uint64_t. */
+#define RCL_SPAN_START(low) ((uint64_t)(low) & (((uint64_t)1 << 48) - 1))
+#define RCL_SPAN_END(low, high) (((uint64_t)(low) >> 48) | (((uint64_t)(high) & (((uint64_t)1 << 32) - 1)) << 16))
+#define RCL_SPAN_DOC(high) ((uint64_t)(high) >> 32)
+
+/* What lexing answers. */
 typedef struct rcl_lexed {
     uint64_t refused;            /* 0: the text is accepted; 1: it is refused */
     uint64_t number;             /* the refusal's number in document 01, 0 if there is none */
     uint64_t low, high;          /* its span */
     uint64_t noted;              /* 1 where there is a note (refusals 24 to 28) */
     uint64_t note_low, note_high; /* the note's span: the opener */
-    uint64_t lexemes;            /* steps not refused that are no Space */
+    uint64_t lexemes;            /* steps not refused that are no Space (RCL_SPACE) */
     uint64_t steps;              /* all steps not refused */
     uint64_t kept, dropped;      /* the bytes of lexemes and of Spaces */
     uint64_t deepest;            /* the most openers open at once */
@@ -49,7 +119,7 @@ typedef struct rcl_answer {
     uint64_t count;
 } rcl_answer;
 
-/* The scalar value of the escape sequence of kind `kind` (11 to 13) at the span `low`, `high` of the text.
+/* The scalar value of the escape sequence of kind `kind` (11 to 13, RCL_ESCAPE_SINGLE to RCL_ESCAPE_UNICODE_DELIM) at the span `low`, `high` of the text.
    Refusals, in this order: 3 start after end, 40 wrong kind or form or outside the text, 43 no digit, 44 over 6 digits, 45 surrogate or over 0x10FFFF, 41 unknown, 42 a capital. */
 rcl_answer rcl_scalar_value(const uint8_t *text, uintptr_t len, uint64_t low, uint64_t high, uint8_t kind);
 
@@ -58,8 +128,8 @@ rcl_answer rcl_scalar_value(const uint8_t *text, uintptr_t len, uint64_t low, ui
 rcl_answer rcl_unescape_into(const uint8_t *text, uintptr_t len, uint64_t low, uint64_t high, uint8_t kind,
                              uint8_t *output, uintptr_t output_len, uintptr_t position);
 
-/* The indent of a parts list with `parts` parts (or as many as it has places): over String parts that begin with LF, the fewest spaces after it; 0 where there is no such part.
-   Refusals, part by part: 3, then 40 for a kind outside 10 to 14 or a span outside the text. */
+/* The indent of a parts list with `parts` parts (or as many as it has places): over String parts (RCL_STRING_INNER) that begin with LF, the fewest spaces after it; 0 where there is no such part.
+   Refusals, part by part: 3, then 40 for a kind outside 10 to 14 (RCL_STRING_INNER to RCL_HOLE_OPEN) or a span outside the text. */
 rcl_answer rcl_count_common_leading_spaces(const uint8_t *text, uintptr_t len,
                                            const uint8_t *kinds, uintptr_t kinds_len, const uint64_t *words, uintptr_t words_len, uintptr_t parts);
 
@@ -70,7 +140,8 @@ typedef struct rcl_parted {
     uint64_t parts;              /* how many parts were put, also where refused */
 } rcl_parted;
 
-/* Lists the parts of the string whose QuoteOpen stands at `place` of a list of `lexemes` lexemes (or as many as it has places): kinds 10 to 14 and spans, a hole as one part of kind 14.
+/* Lists the parts of the string whose QuoteOpen (5 to 8, RCL_QUOTE_OPEN_PLAIN_DOUBLE to RCL_QUOTE_OPEN_FORMAT_TRIPLE) stands at `place` of a list of `lexemes` lexemes (or as many as it has places):
+   kinds 10 to 14 (RCL_STRING_INNER to RCL_HOLE_OPEN) and spans, a hole as one part of kind RCL_HOLE_OPEN.
    Refusals, lexeme by lexeme: 3, 50 no string, 31 the parts list is full. The parts list holds the `parts` parts found, and every place after them is untouched. */
 rcl_parted rcl_parts(const uint8_t *kinds, uintptr_t kinds_len, const uint64_t *words, uintptr_t words_len, uintptr_t lexemes, uintptr_t place,
                      uint8_t *part_kinds, uintptr_t part_kinds_len, uint64_t *part_words, uintptr_t part_words_len);
@@ -125,7 +196,7 @@ typedef struct rcl_stepped {
 } rcl_stepped;
 
 /* One step of a walker that stands at `position` with `depth` openers on its stack, as it began with 0 and 0; `kept` to `kept_high` are what rcl_walker_open answered (0: nothing kept).
-   A Space is a lexeme here. Only an opener is written to the stack, at the place numbered by the depth before it; a refused step changes nothing.
+   A Space (RCL_SPACE) is a lexeme here. Only an opener is written to the stack, at the place numbered by the depth before it; a refused step changes nothing.
    Refusals, in this order: the kept one; 2; 40 at 0-0 where the position is past the end, the depth above the stack's places or the innermost code no opener's; 25 to 28 at the end; 10 to 24 of the text; 30. */
 rcl_stepped rcl_walker_step(uint32_t doc, const uint8_t *text, uintptr_t len, uintptr_t position, uintptr_t depth,
                             uint64_t kept, uint8_t kept_number, uint64_t kept_low, uint64_t kept_high,

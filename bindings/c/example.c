@@ -29,17 +29,29 @@ static const char protocol[] =
     "    \"\"\"},\n"
     "]\n";
 
-/* By code. */
-static const char *const names[60] = {
-    "Space", "Blank", "Shebang", "LineComment", "Ident",
-    "QuoteOpen, plain double", "QuoteOpen, plain triple", "QuoteOpen, format double", "QuoteOpen, format triple",
-    "QuoteClose", "StringInner", "Escape, Single", "Escape, Unicode4", "Escape, UnicodeDelim",
-    "HoleOpen", "HoleClose", "NumHexadecimal", "NumBinary", "NumDecimal",
-    "KwAnd", "KwAssert", "KwFalse", "KwFor", "KwElse", "KwIf", "KwImport", "KwIn", "KwLet", "KwNot", "KwNull", "KwOr",
-    "KwTrace", "KwTrue",
-    "LParen", "RParen", "LBracket", "RBracket", "LBrace", "RBrace",
-    "Lt", "Gt", "LtEq", "GtEq", "Eq2", "Neq", "ThinArrow", "FatArrow", "Eq1", "Bang", "Star", "Plus", "Comma", "Minus",
-    "Dot", "DotDot", "DotDotDot", "Slash", "Colon", "Semicolon", "Pipe"
+/* By kind. */
+static const char *const names[] = {
+    [RCL_SPACE] = "Space", [RCL_BLANK] = "Blank", [RCL_SHEBANG] = "Shebang", [RCL_LINE_COMMENT] = "LineComment",
+    [RCL_IDENT] = "Ident",
+    [RCL_QUOTE_OPEN_PLAIN_DOUBLE] = "QuoteOpen, plain double",
+    [RCL_QUOTE_OPEN_PLAIN_TRIPLE] = "QuoteOpen, plain triple",
+    [RCL_QUOTE_OPEN_FORMAT_DOUBLE] = "QuoteOpen, format double",
+    [RCL_QUOTE_OPEN_FORMAT_TRIPLE] = "QuoteOpen, format triple",
+    [RCL_QUOTE_CLOSE] = "QuoteClose", [RCL_STRING_INNER] = "StringInner", [RCL_ESCAPE_SINGLE] = "Escape, Single",
+    [RCL_ESCAPE_UNICODE4] = "Escape, Unicode4", [RCL_ESCAPE_UNICODE_DELIM] = "Escape, UnicodeDelim",
+    [RCL_HOLE_OPEN] = "HoleOpen", [RCL_HOLE_CLOSE] = "HoleClose", [RCL_NUM_HEXADECIMAL] = "NumHexadecimal",
+    [RCL_NUM_BINARY] = "NumBinary", [RCL_NUM_DECIMAL] = "NumDecimal",
+    [RCL_KW_AND] = "KwAnd", [RCL_KW_ASSERT] = "KwAssert", [RCL_KW_FALSE] = "KwFalse", [RCL_KW_FOR] = "KwFor",
+    [RCL_KW_ELSE] = "KwElse", [RCL_KW_IF] = "KwIf", [RCL_KW_IMPORT] = "KwImport", [RCL_KW_IN] = "KwIn",
+    [RCL_KW_LET] = "KwLet", [RCL_KW_NOT] = "KwNot", [RCL_KW_NULL] = "KwNull", [RCL_KW_OR] = "KwOr",
+    [RCL_KW_TRACE] = "KwTrace", [RCL_KW_TRUE] = "KwTrue",
+    [RCL_LPAREN] = "LParen", [RCL_RPAREN] = "RParen", [RCL_LBRACKET] = "LBracket", [RCL_RBRACKET] = "RBracket",
+    [RCL_LBRACE] = "LBrace", [RCL_RBRACE] = "RBrace",
+    [RCL_LT] = "Lt", [RCL_GT] = "Gt", [RCL_LT_EQ] = "LtEq", [RCL_GT_EQ] = "GtEq", [RCL_EQ2] = "Eq2", [RCL_NEQ] = "Neq",
+    [RCL_THIN_ARROW] = "ThinArrow", [RCL_FAT_ARROW] = "FatArrow", [RCL_EQ1] = "Eq1", [RCL_BANG] = "Bang",
+    [RCL_STAR] = "Star", [RCL_PLUS] = "Plus", [RCL_COMMA] = "Comma", [RCL_MINUS] = "Minus",
+    [RCL_DOT] = "Dot", [RCL_DOT_DOT] = "DotDot", [RCL_DOT_DOT_DOT] = "DotDotDot", [RCL_SLASH] = "Slash",
+    [RCL_COLON] = "Colon", [RCL_SEMICOLON] = "Semicolon", [RCL_PIPE] = "Pipe"
 };
 
 /* What is lent to the calls. */
@@ -52,17 +64,8 @@ static uint8_t part_kinds[PART_PLACES];
 static uint64_t part_words[2 * PART_PLACES];
 static uint8_t output[OUTPUT_MAX];
 
-/* A span's offsets by its two words. */
-static uint64_t span_start(uint64_t low) {
-    return low & UINT64_C(0xffffffffffff);
-}
-
-static uint64_t span_end(uint64_t low, uint64_t high) {
-    return low >> 48 | (high & UINT64_C(0xffffffff)) << 16;
-}
-
 static void print_span(uint64_t low, uint64_t high) {
-    printf(" %" PRIu64 "-%" PRIu64, span_start(low), span_end(low, high));
+    printf(" %" PRIu64 "-%" PRIu64, RCL_SPAN_START(low), RCL_SPAN_END(low, high));
 }
 
 static void print_refusal(uint64_t number, uint64_t low, uint64_t high) {
@@ -150,8 +153,8 @@ static void print_values(uintptr_t len, uint64_t lexemes) {
     uint64_t place, position = 0;
     printf("\nstrings:\n");
     for (place = 0; place < lexemes; place++) {
-        if (kinds[place] >= 5 && kinds[place] <= 8) {
-            printf("%" PRIu64 " ", span_start(words[2 * place]));
+        if (kinds[place] >= RCL_QUOTE_OPEN_PLAIN_DOUBLE && kinds[place] <= RCL_QUOTE_OPEN_FORMAT_TRIPLE) {
+            printf("%" PRIu64 " ", RCL_SPAN_START(words[2 * place]));
             position = print_value(len, lexemes, place, position);
         }
     }

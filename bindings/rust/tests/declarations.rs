@@ -1,9 +1,12 @@
 //! include/rcl.h, src/raw.rs and the exports of crates/rcl say the same: every call with its
-//! arguments in order, and every struct with its fields.
+//! arguments in order, and every struct with its fields. The header's kind codes and its
+//! macros for spans are those of this crate.
 
 use std::collections::BTreeMap;
 use std::fs;
 use std::path::{Path, PathBuf};
+
+use rcl::{Kind, Span, LARGEST_OFFSET};
 
 /// A name and a type, written as in Rust.
 type Named = (String, String);
@@ -109,6 +112,12 @@ fn without_block_comments(source: &str) -> String {
     parts.collect()
 }
 
+/// Each stands on one line.
+fn without_directives(source: &str) -> String {
+    let lines = source.lines().filter(|line| !line.starts_with('#'));
+    lines.collect::<Vec<_>>().join("\n")
+}
+
 /// `rcl_lexed` is `Lexed` in Rust.
 fn rust_type(kind: &str) -> String {
     match kind {
@@ -148,7 +157,7 @@ fn c_fields(field: &str) -> Vec<Named> {
 }
 
 fn declared_in_c(source: &str) -> Declared {
-    let source = without_block_comments(source);
+    let source = without_directives(&without_block_comments(source));
     let mut declared = Declared::default();
     for (head, _) in each(&source, "typedef struct ", '}') {
         let (name, fields) = head.split_once('{').expect("A struct has fields.");
@@ -170,8 +179,53 @@ fn declared_in_c(source: &str) -> Declared {
     declared
 }
 
+/// The names of the kinds in order, each with its code.
+fn enumerators(source: &str) -> Vec<(String, u8)> {
+    let source = without_block_comments(source);
+    let mut enums = each(&source, "enum rcl_kind {", '}');
+    let (body, _) = enums.next().expect("The kinds have names.");
+    let named = body.split(',').map(|enumerator| {
+        let (name, code) = enumerator.split_once('=').expect("Each has its code.");
+        let code = words(code).parse().expect("A code is a number.");
+        (words(name), code)
+    });
+    named.collect()
+}
+
+/// `LineComment` is `RCL_LINE_COMMENT`, and `LParen` `RCL_LPAREN`: an underscore stands before
+/// a capital that follows a small letter.
+fn c_name(kind: Kind) -> String {
+    let (mut name, mut after_small) = ("RCL_".to_string(), false);
+    for letter in format!("{kind:?}").chars() {
+        if after_small && letter.is_uppercase() {
+            name.push('_');
+        }
+        after_small = letter.is_lowercase();
+        name.push(letter.to_ascii_uppercase());
+    }
+    name
+}
+
+/// What a macro stands for, without casts and spaces.
+fn defined(source: &str, name_and_parameters: &str) -> String {
+    let start = format!("#define {name_and_parameters} ");
+    let (formula, _) = each(source, &start, '\n').next().expect("It is defined.");
+    formula.replace("(uint64_t)", "").replace(' ', "")
+}
+
+/// A formula's text without spaces, and its value: C and Rust read it alike.
+macro_rules! formula {
+    ($formula:expr) => {
+        (stringify!($formula).replace(' ', ""), $formula)
+    };
+}
+
+fn header_text() -> String {
+    read(&top().join("include/rcl.h"))
+}
+
 fn header() -> Declared {
-    declared_in_c(&read(&top().join("include/rcl.h")))
+    declared_in_c(&header_text())
 }
 
 fn exports() -> Declared {
@@ -211,5 +265,41 @@ fn compare_fields(call: &str, header: &[Named], exports: &[Named]) {
             "{call}: {name}"
         );
         assert_eq!(kind, exported_kind, "{call}: {name}");
+    }
+}
+
+#[test]
+fn the_kind_codes() {
+    let enumerators = enumerators(&header_text());
+    assert_eq!(enumerators.len(), 60);
+    for ((name, code), kind) in enumerators.into_iter().zip(Kind::ALL) {
+        assert_eq!((name, code), (c_name(kind), kind.code()));
+    }
+}
+
+#[test]
+fn the_macros_for_spans() {
+    let header = header_text();
+    let spans = [
+        (0, 0, 0),
+        (1, 3, 2),
+        (0xffff, 0x10000, 1),
+        (0x0123_4567_89ab, 0xba98_7654_3210, 0xfedc_ba98),
+        (LARGEST_OFFSET, LARGEST_OFFSET, u32::MAX),
+    ];
+    for (start, end, doc) in spans {
+        let [low, high] = Span { start, end, doc }.pack().expect("It is a span.");
+        assert_eq!(
+            formula!(((low) & ((1 << 48) - 1))),
+            (defined(&header, "RCL_SPAN_START(low)"), start as u64)
+        );
+        assert_eq!(
+            formula!((((low) >> 48) | (((high) & ((1 << 32) - 1)) << 16))),
+            (defined(&header, "RCL_SPAN_END(low, high)"), end as u64)
+        );
+        assert_eq!(
+            formula!(((high) >> 32)),
+            (defined(&header, "RCL_SPAN_DOC(high)"), u64::from(doc))
+        );
     }
 }

@@ -5,7 +5,7 @@ use native.Mathlib.Nat.{add-zero, zero-add, add-assoc}
 use native.Mathlib.Omega.{arith}
 use mathlib.Core.Path.{_≡_, refl, sym, _∙_}
 use mathlib.Core.List.{List, [], _∷_}
-use mathlib.Core.Bool.{Bool, true, false, cond, _&&_, _||_, true≢false, false≢true}
+use mathlib.Core.Bool.{Bool, true, false, cond, _&&_, _||_, and-true, and-false, true≢false, false≢true}
 use lib.Dec.{T, leb, ltb, eqb, leb→le, eqb→eq, eqb-refl}
 use lib.ListN.{drop}
 use Rattle.rules.specs.Text.{is, begins, run}
@@ -23,14 +23,6 @@ decide false f g = g refl
 or-cases : {P : Type 0} (a b : Bool) → (a ≡ true → P) → (b ≡ true → P) → a || b ≡ true → P
 or-cases true b f g e = f refl
 or-cases false b f g e = g e
-
-and-true : (t : Bool) → t && true ≡ t
-and-true true = refl
-and-true false = refl
-
-and-false : (t : Bool) → t && false ≡ false
-and-false true = refl
-and-false false = refl
 
 cond-same : (t x : Bool) → cond t x x ≡ x
 cond-same true x = refl

@@ -11,3 +11,4 @@ pub mod Parts
 pub mod Standing
 pub mod Loop
 pub mod Running
+pub mod Lone

@@ -2,9 +2,9 @@
 use Prim.Native.Nat.{ℕ, _%_, _^_, _<_, _≤_, max}
 use native.Mathlib.Omega.{arith}
 use mathlib.Core.Path.{_≡_, refl, sym, _∙_, ap}
-use mathlib.Core.Bool.{Bool, true, false, cond, _&&_, false≢true}
+use mathlib.Core.Bool.{true, false, cond, _&&_, false≢true}
 use lib.Dec.{leb, ltb, eqb}
-use borrow.Author.Tests.{ltb-true, lt-leb, le-leb, eqb-true}
+use borrow.Author.Tests.{ltb-true, eqb-true}
 use Rattle.rules.specs.Kinds.{isSpace, isOpener, isCloser}
 use Rattle.rules.specs.Refusals.{AnotherDue, StackFull, ListFull}
 use Rattle.rules.specs.Spans.{span, spanOf, low, high}
@@ -27,18 +27,10 @@ packed-words doc a e l h p q word same =
 pub noted-open : (number depth : ℕ) → eqb number AnotherDue && ltb 0 depth ≡ true → 0 < depth
 noted-open number depth e = decide (eqb number AnotherDue) (λ q. ltb-true 0 depth (rw q at e)) (λ q. absurd (false≢true (rw q at e)))
 
-and-false : (b : Bool) → b && false ≡ false
-and-false true = refl
-and-false false = refl
-
--- the three ways of `full`: the stack has a place, the lexeme opens, it does not
-pub full-shallow : (stack places : ℕ) (c : Cursor) (k : ℕ) → isSpace k ≡ false → c .depth < stack → cond (leb places (c .lexemes)) ListFull 0 ≡ fullOf stack places c k
+-- when there is no room for a lexeme that opens, and for one that does not
+pub full-opener : (stack places : ℕ) (c : Cursor) (k : ℕ) → isSpace k ≡ false → isOpener k ≡ true → cond (leb stack (c .depth)) StackFull (cond (leb places (c .lexemes)) ListFull 0) ≡ fullOf stack places c k
 unfolding fullOf
-full-shallow stack places c k b h = rw (b, lt-leb stack (c .depth) h, and-false (isOpener k))
-
-pub full-opener : (stack places : ℕ) (c : Cursor) (k : ℕ) → stack ≤ c .depth → isOpener k ≡ true → StackFull ≡ fullOf stack places c k
-unfolding fullOf
-full-opener stack places c k h o = rw (o, le-leb stack (c .depth) h)
+full-opener stack places c k b o = rw (b, o)
 
 pub full-other : (stack places : ℕ) (c : Cursor) (k : ℕ) → isSpace k ≡ false → isOpener k ≡ false → cond (leb places (c .lexemes)) ListFull 0 ≡ fullOf stack places c k
 unfolding fullOf

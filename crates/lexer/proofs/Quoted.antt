@@ -3,7 +3,7 @@ use Prim.Native.Nat.{ℕ, suc, _+_, _≤_, _<_}
 use Prim.Native.Char.{code}
 use mathlib.Core.Path.{_≡_, refl, sym, _∙_}
 use mathlib.Core.List.{List}
-use mathlib.Core.Bool.{Bool, true, false, cond, not, _&&_, _||_, true≢false}
+use mathlib.Core.Bool.{Bool, true, false, cond, not, _&&_, _||_, true≢false, false≢true}
 use native.Mathlib.Omega.{arith}
 use native.Mathlib.Nat.{add-zero, add-assoc}
 use lib.ListN.{length, drop, getD}
@@ -15,8 +15,8 @@ use Rattle.rules.specs.Utf8.{isTail}
 use Rattle.rules.specs.Refusals.{NoClosingBrace, FewHexDigits, EscapeAtEnd, EscapedLineEnd, EscapedNotAscii}
 use Rattle.rules.specs.Kinds.{isFormat, QuoteClose, StringInner, Single, Unicode4, UnicodeDelim, HoleOpen}
 use Rattle.rules.specs.Step.{found, stop as stopped, unicodeDelim, unicode4, singleEscape, isInner}
-use Rattle.rules.proofs.Text.{decide}
-use Rattle.rules.proofs.Runs.{starts-at, begins-at, begins-more, begins-is, begins-not, same-last, same-not, run-same}
+use Rattle.rules.proofs.Text.{decide, is-code}
+use Rattle.rules.proofs.Runs.{starts-at, begins-at, begins-more, begins-is, begins-not, same-last, same-not, run-same, run-stop}
 use Rattle.scan.specs.Classes.{isInnerFor}
 use Rattle.lexer.specs.Outcome.{lexemeTo, refusedAt, outcome}
 use Rattle.lexer.specs.ByClass.{escaped}
@@ -139,6 +139,16 @@ module _ (t : List ℕ) (at stop : ℕ) (triple : Bool) where
         rw (in-other quote (drop at t) (begins-not "\\" t at refl a) (begins-not "\"" t at refl b))
         (decide (isFormat quote) (λ f. rw (f, begins-not "{" t at refl (λ e. c (e ∙ sym (rw f at s))), inner-end quote s)) (λ f. rw (f, inner-end quote s)));
   }
+
+  -- an inner part before a line end is one byte long, by the code's test for an empty line
+  pub quoted-line : is "\n" (getD t at 0) && is "\n" (getD t (at + 1) 0) ≡ true →
+      Quoted at (drop at t) stop triple (lexemeTo StringInner (at + 1 + run (isInnerFor stop) (drop (at + 1) t))) →
+      Quoted at (drop at t) stop triple (lexemeTo StringInner (at + 1))
+  unfolding isInnerFor
+  quoted-line e q =
+      let line : is "\n" (getD t (at + 1) 0) ≡ true = decide (is "\n" (getD t at 0)) (λ f. rw f at e) (λ f. absurd (false≢true (rw f at e))) in
+      let ends : isInnerFor stop (getD t (at + 1) 0) ≡ false = rw (is-code "\n" (getD t (at + 1) 0) line) refl in
+      rw (run-stop (isInnerFor stop) t (at + 1) ends, add-zero) at q
 
   -- a quote that closes, by the bytes after it
   closes-at : getD t at 0 ≡ code "\"" → not triple || is "\"" (getD t (at + 1) 0) && is "\"" (getD t (at + 2) 0) ≡ cond triple (begins "\"\"\"" (drop at t)) true

@@ -6,7 +6,7 @@ use mathlib.Core.List.{List}
 use mathlib.Core.Bool.{Bool, true, false, cond, not, _&&_}
 use mathlib.Core.Option.{none}
 use native.Mathlib.Omega.{arith}
-use lib.Dec.{eqb}
+use lib.Dec.{leb, eqb}
 use lib.ListN.{length, drop, getD, length-drop, length-set}
 use lib.Seq.{getD-set-same}
 use borrow.Author.Tests.{lt-leb, ne-eqb}
@@ -31,9 +31,9 @@ use Rattle.lexer.specs.Cursor.{start, advanceOf, fullOf}
 use Rattle.lexer.specs.Memory.{PutAt, topOf}
 use Rattle.lexer.specs.Outcome.{lexemeTo, refusedAt, outcome, stepMeant, innermostOf}
 use Rattle.lexer.specs.Results.{faultOf, noFault, CanAdvance}
-use Rattle.lexer.specs.Running.{CanRun, Runs, innermostIn}
+use Rattle.lexer.specs.Running.{CanRun, Runs, LoneIf, innermostIn}
 use Rattle.lexer.proofs.Opening.{opened-code}
-use Rattle.lexer.proofs.Parts.{packed-words, space-opens}
+use Rattle.lexer.proofs.Parts.{packed-words, full-opener, full-other, space-opens}
 use Rattle.lexer.proofs.Standing.{Standing, standing-start, Advanced, advanced, room-list, room-stack, space-depth, depth-opens, depth-rest, depth-stays, kinds-as-long, words-as-long}
 use Rattle.lexer.proofs.Loop.{no-state, outcome-found, Stop, outcome-stop, found-means, fault-means, Wrote, can-stop, can-finish, stop-out, stop-small, end-out, full-out, goes-on, took, took-small}
 
@@ -111,10 +111,14 @@ module _ {doc : ℕ} {text : List ℕ} {from : Cursor} {stop : ℕ} {ks₀ ws₀
   untaken : stop ≡ from .at + 1 → (c ≡ from) × (innermostOf top ≡ innermostIn (from .depth) sk₀)
   untaken e = s .first (omega (arith, s .forward))
 
-  -- the places that the code counted are the arrays'
-  pub full-here : {stack places number : ℕ} (k : ℕ) → stack ≡ placesOf sk₀ sw₀ → places ≡ placesOf ks₀ ws₀ → number ≡ fullOf stack places c k →
-      number ≡ fullOf (placesOf sk₀ sw₀) (placesOf ks₀ ws₀) c k
-  full-here k a b e = rw (← a, ← b) e
+  -- the number that the code computes, from the places that it counted, is the rules': for a lexeme that opens, and for one that does not
+  pub opener-number : {stack places number : ℕ} (k : ℕ) → stack ≡ placesOf sk₀ sw₀ → places ≡ placesOf ks₀ ws₀ → isSpace k ≡ false → isOpener k ≡ true →
+      number ≡ cond (leb stack (c .depth)) StackFull (cond (leb places (c .lexemes)) ListFull 0) → number ≡ fullOf (placesOf sk₀ sw₀) (placesOf ks₀ ws₀) c k
+  opener-number {stack} {places} k a b z o e = rw (← a, ← b) (e ∙ full-opener stack places c k z o)
+
+  pub other-number : {stack places number : ℕ} (k : ℕ) → stack ≡ placesOf sk₀ sw₀ → places ≡ placesOf ks₀ ws₀ → isSpace k ≡ false → isOpener k ≡ false →
+      number ≡ cond (leb places (c .lexemes)) ListFull 0 → number ≡ fullOf (placesOf sk₀ sw₀) (placesOf ks₀ ws₀) c k
+  other-number {stack} {places} k a b z o e = rw (← a, ← b) (e ∙ full-other stack places c k z o)
 
   -- what a lexeme that was found says of the text
   pub record Taken (k e : ℕ) : Type 0 where
@@ -225,6 +229,9 @@ module _ {doc : ℕ} {text : List ℕ} {from : Cursor} {stop : ℕ} {ks₀ ws₀
         let m : Advanced c j e (advanceOf c j e) = advanced c j e (s .deeper) in
         rw q (omega (arith, m .at, t .moves, t .fits))
 
+    pub ends-at : {c′ : Cursor} → c′ ≡ advanceOf c k e → c′ .at ≡ e
+    ends-at q = rw q (advanced c k e (s .deeper) .at)
+
     -- after a lexeme that opens nothing the stack still has its places, and what neither opens nor closes leaves the state as it is
     pub other-shallow : {c′ : Cursor} → isOpener k ≡ false → c′ ≡ advanceOf c k e → c′ .depth ≤ length sk
     other-shallow o q =
@@ -294,6 +301,14 @@ module _ {doc : ℕ} {text : List ℕ} {from : Cursor} {stop : ℕ} {ks₀ ws₀
               stackWords = rw (o, ← words-here .0, ← words-here .1) (push .words);
             })
             kinds-long words-long (rw (m .depth, depth-opens (c .depth) k o, some-open, back, push .kinds, getD-set-same sk (c .depth) k 0 (stack-place o .0)) state))
+
+-- a Space of one byte behind a lexeme, in the same turn
+module _ {doc : ℕ} {text : List ℕ} {from : Cursor} {stop : ℕ} {ks₀ ws₀ sk₀ sw₀ ks ws sk sw : List ℕ} {c : Cursor} {top : Opened} {kind : ℕ} (s : Running doc text from stop ks₀ ws₀ sk₀ sw₀ ks ws sk sw c top kind) {end : ℕ} {b : Bool} (at : c .at ≡ end) (says : b ≡ true) (lone : LoneIf b text end stop top) where
+  pub lone-before : c .at < stop
+  lone-before = omega (arith, lone .before says)
+
+  pub lone-taken : Taken s lone-before Space (end + 1)
+  lone-taken = record { is = rw at (lone .space says); moves = omega arith; fits = omega (arith, lone .before says, s .before) }
 
 -- the last position is reached
 module _ {doc : ℕ} {text : List ℕ} {from : Cursor} {stop : ℕ} {ks₀ ws₀ sk₀ sw₀ ks ws sk sw : List ℕ} {c : Cursor} {top : Opened} {kind : ℕ} (s : Running doc text from stop ks₀ ws₀ sk₀ sw₀ ks ws sk sw c top kind) where

@@ -6,11 +6,21 @@ use mathlib.Core.List.{List}
 use mathlib.Core.Bool.{Bool, true, cond}
 use Rattle.rules.specs.Kinds.{isQuoteOpen, isFormat, isTriple}
 use Rattle.rules.specs.Step.{inside}
-use Rattle.lexer.specs.Outcome.{Outcome, outcome}
+use Rattle.token.specs.declared.Opened.{Opened}
+use Rattle.lexer.specs.Outcome.{Outcome, outcome, innermostOf}
+use Rattle.lexer.specs.declared.Mode.{Mode}
 
 -- the brace in a format string, a quote in a plain one
 abbrev pub stopOf : (quote : ℕ) → ℕ
 stopOf quote = cond (isFormat quote) (code "{") (code "\"")
+
+-- the mode of an innermost opener
+abbrev pub modeOf : Opened → Mode
+modeOf top = record {
+  stop = cond (isQuoteOpen (innermostOf top)) (stopOf (innermostOf top)) 0;
+  triple = isTriple (innermostOf top);
+  top = top;
+}
 
 -- an outcome in every string whose opener has these
 pub record Quoted (at : ℕ) (s : List ℕ) (stop : ℕ) (triple : Bool) (o : Outcome) : Type 0 where

@@ -1,17 +1,18 @@
 -- Steps from a cursor on, up to a position: what its two users are told. `lex` takes every step of a text, a single step stops at the next position.
 use Prim.Native.Nat.{ℕ, _+_, _-_, _≤_, _<_, _^_}
 use mathlib.Core.Path.{_≡_}
-use mathlib.Core.Bool.{cond}
+use mathlib.Core.Bool.{Bool, true, cond}
 use mathlib.Core.List.{List}
 use mathlib.Core.Option.{none}
 use lib.Dec.{eqb}
 use lib.ListN.{length, drop, getD}
 use Rattle.rules.specs.Utf8.{firstBad}
-use Rattle.rules.specs.Kinds.{Nothing, isOpener}
+use Rattle.rules.specs.Kinds.{Nothing, Space, isOpener}
 use Rattle.rules.specs.Step.{step}
 use Rattle.rules.specs.Lexing.{placesOf, Lexes}
 use Rattle.lexer.specs.Cursor.{start}
-use Rattle.lexer.specs.Outcome.{lexemeTo, refusedAt, outcome}
+use Rattle.token.specs.declared.Opened.{Opened}
+use Rattle.lexer.specs.Outcome.{lexemeTo, refusedAt, outcome, innermostOf}
 use Rattle.lexer.specs.Results.{lexedMeant, refusedWith, verdictAt, noteAt, CanStop, CanFinish}
 use Rattle.lexer.specs.declared.Cursor.{Cursor}
 use Rattle.lexer.specs.declared.Fault.{Fault}
@@ -31,6 +32,15 @@ pub record CanRun (text : List ℕ) (c : Cursor) (stop : ℕ) (sk sw : List ℕ)
 -- the code of the innermost of so many openers, nothing where it is no opener's
 abbrev pub innermostIn : (depth : ℕ) → List ℕ → ℕ
 innermostIn depth sk = cond (eqb depth 0) Nothing (cond (isOpener (getD sk (depth - 1) 0)) (getD sk (depth - 1) 0) Nothing)
+
+-- there is no room for a lexeme
+abbrev pub ranFull : Cursor → (at end number : ℕ) → Ran
+ranFull c at end number = record { cur = c; fault = record { end = end; number = number; start = at }; kind = 0 }
+
+-- the step at a position before `stop` is a Space of one byte, where a test says so
+pub record LoneIf (b : Bool) (text : List ℕ) (at stop : ℕ) (top : Opened) : Type 0 where
+  pub before : b ≡ true → at < stop
+  pub space : b ≡ true → lexemeTo Space (at + 1) ≡ outcome at (step (innermostOf top) (drop at text))
 
 -- a whole text was lexed: whoever reports the fault, or the end where there is none, gives the answer of a lexing call
 pub record Whole (doc : ℕ) (text ks ws sk sw : List ℕ) (c : Cursor) (f : Fault) (ks′ ws′ sk′ sw′ : List ℕ) : Type 0 where

@@ -3,17 +3,20 @@
 ghost use mathlib.Core.Path.{_≡_};
 ghost use mathlib.Core.Bool.{true, false, cond};
 ghost use lib.Dec.{leb};
-ghost use Rattle.rules.specs.Refusals.{ListFull};
-ghost use Prim.Native.Nat.{max, pred};
+ghost use Rattle.rules.specs.Refusals.{StackFull, ListFull};
+ghost use Prim.Native.Nat.{_≤_, max, pred};
+ghost use lib.ListN.{length};
 ghost use Rattle.rules.specs.Kinds.{Space, isSpace, isOpener, isCloser};
 ghost use Rattle.rules.specs.Lexing.{Lexes};
-ghost use Rattle.lexer.specs.Cursor.{advanceOf, fullOf};
+ghost use Rattle.lexer.specs.Cursor.{advanceOf};
 ghost use Rattle.lexer.specs.Results.{lexedMeant, lexedAt, refusedWith, CanAdvance, CanReport, CanStop, CanFinish, noteAt, verdictAt, faultOf, noFault};
-ghost use Rattle.lexer.specs.Running.{CanRun, Runs};
+ghost use Rattle.lexer.specs.Quotes.{modeOf};
+ghost use Rattle.lexer.specs.Running.{CanRun, Runs, LoneIf, ranFull};
 use crate::Answer;
 use crate::Cursor;
 use crate::Fault;
 use crate::Lexed;
+use crate::Mode;
 use crate::Ran;
 use crate::Step;
 use crate::list;
@@ -33,15 +36,11 @@ fn list_full(cur: Cursor, places: usize) -> u8
     0
 }
 
-// 30 or 31 where the stack or the list has no room for a lexeme, else 0. A stack is seldom full, so that `opens` is seldom asked.
-fn full(kind: u8, cur: Cursor, stack: usize, places: usize) -> u8
-    requires { ⌜ isSpace kind ≡ false ⌝ }
-    ensures { λ r. ⌜ r ≡ fullOf stack places cur kind ⌝ }
+// 30 or 31 where the stack or the list has no room for an opener, else 0.
+fn full(cur: Cursor, stack: usize, places: usize) -> u8
+    ensures { λ r. ⌜ r ≡ cond (leb stack (cur .depth)) StackFull (cond (leb places (cur .lexemes)) ListFull 0) ⌝ }
 {
-    if cur.depth < stack {
-        return list_full(cur, places);
-    }
-    if token::opens(kind) {
+    if stack <= cur.depth {
         return 30;
     }
     list_full(cur, places)
@@ -206,8 +205,40 @@ fn fault_of(answer: Step, at: usize) -> Fault
     }
 }
 
+// The steps end at a lexeme for which there is no room.
+fn no_room(cur: Cursor, at: usize, end: usize, number: u8) -> Ran
+    ensures { λ r. ⌜ r ≡ ranFull cur at end number ⌝ }
+{
+    Ran {
+        cur: cur,
+        fault: Fault {
+            end: end,
+            number: number,
+            start: at,
+        },
+        kind: 0,
+    }
+}
+
+// Whether the step at `at`, which comes after a lexeme and before `stop`, is a Space of one byte. Most lexemes have one behind them, so that a whole turn of the loop is saved.
+fn lone_space(text: &[u8], at: usize, stop: usize, mode: Mode) -> bool
+    requires { ⌜ (stop ≤ length (now text)) × (mode ≡ modeOf (mode .top)) ⌝ }
+    ensures { λ r. ⌜ LoneIf r (now (text .entry)) at stop (mode .top) ⌝ }
+{
+    if stop <= at {
+        return false;
+    }
+    if text[at] != b' ' {
+        return false;
+    }
+    if mode.stop != 0 {
+        return false;
+    }
+    b' ' < scan::byte_at(text, at + 1)
+}
+
 // No fault: the number 0.
-fn faultless() -> Fault
+fn no_fault() -> Fault
     ensures { λ r. ⌜ r ≡ noFault ⌝ }
 {
     Fault {
@@ -217,8 +248,8 @@ fn faultless() -> Fault
     }
 }
 
-// Takes steps from a cursor on while it stands before `stop`: one step where `stop` is the next position, all of them where it is the text's end. The innermost state is kept beside
-// the cursor, so that it is read from the stack after a closer alone.
+// Takes steps from a cursor on while it stands before `stop`: one step where `stop` is the next position, all of them where it is the text's end. The mode is kept beside the
+// cursor, so that the stack is read after a closer alone.
 pub(crate) fn run(
     doc: u32,
     text: &[u8],
@@ -236,12 +267,12 @@ pub(crate) fn run(
     let stack = list::places(skinds, swords);
     let table = token::table();
     let first = from.depth;
-    let mut top = list::top_state(skinds, first);
+    let mut mode = next::mode_of(list::top_state(skinds, first));
     let mut cur = from;
     let mut kind = 0;
     while cur.at < stop {
         let at = cur.at;
-        let answer = next::next(&table, text, at, top);
+        let answer = next::next(&table, text, at, mode);
         let Step::Found(lexeme) = answer else {
             return Ran {
                 cur: cur,
@@ -254,40 +285,41 @@ pub(crate) fn run(
         if kind == 0 {
             cur = past_space(cur, end);
         } else {
-            let number = full(kind, cur, stack, places);
-            if number != 0 {
-                return Ran {
-                    cur: cur,
-                    fault: Fault {
-                        end: end,
-                        number: number,
-                        start: at,
-                    },
-                    kind: 0,
-                };
-            }
             let span = Span::pack(doc, at, end);
             let place = cur.lexemes;
-            list::put(kinds, words, place, kind, span);
             if token::opens(kind) {
+                let number = full(cur, stack, places);
+                if number != 0 {
+                    return no_room(cur, at, end, number);
+                }
                 let depth = cur.depth;
+                list::put(kinds, words, place, kind, span);
                 list::put(skinds, swords, depth, kind, span);
                 cur = past_opener(cur, kind, end);
-                top = token::state_of(kind);
+                mode = next::mode_of(token::state_of(kind));
             } else {
+                let number = list_full(cur, places);
+                if number != 0 {
+                    return no_room(cur, at, end, number);
+                }
+                list::put(kinds, words, place, kind, span);
                 if token::closes(kind) {
                     cur = past_closer(cur, kind, end);
                     let depth = cur.depth;
-                    top = list::top_state(skinds, depth);
+                    mode = next::mode_of(list::top_state(skinds, depth));
                 } else {
                     cur = past_other(cur, kind, end);
+                    if lone_space(text, end, stop, mode) {
+                        cur = past_space(cur, end + 1);
+                        kind = 0;
+                    }
                 }
             }
         }
     }
     Ran {
         cur: cur,
-        fault: faultless(),
+        fault: no_fault(),
         kind: kind,
     }
 }

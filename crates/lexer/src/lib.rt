@@ -21,6 +21,7 @@ ghost use mathlib.Core.Path.{_≡_};
 ghost use Rattle.token.specs.Codes.{codeOf};
 ghost use Rattle.lexer.specs.Outcome.{lexemeTo, refusedAt, stepMeant};
 use source::Refusal;
+use token::Opened;
 use token::Token;
 
 // What a step found: where it ends, and its token's kind code. `end` comes first here and in a fault, so that both cases of a step share its place in memory.
@@ -39,6 +40,13 @@ pub struct Fault {
 pub enum Step {
     Found(Lexeme),
     Refused(Fault),
+}
+
+// What the innermost opener makes of the next step: the byte that ends an inner part beside a quote, 0 outside strings, and whether quotes are triple. Both follow from `top`.
+pub struct Mode {
+    pub stop: u8,
+    pub triple: bool,
+    pub top: Opened,
 }
 
 // Where the lexer stands, and what it has counted. Steps are lexemes and Spaces; the bytes that were not dropped are kept.

@@ -11,7 +11,8 @@ ghost use Rattle.token.specs.declared.StringPrefix.the-variants.{None, Format};
 ghost use Rattle.token.specs.Table.{IsTable};
 ghost use Rattle.lexer.specs.ByClass.{lettered};
 ghost use Rattle.lexer.specs.Outcome.{outcome, stepMeant, Here, innermostOf};
-ghost use Rattle.lexer.specs.Quotes.{stopOf};
+ghost use Rattle.lexer.specs.Quotes.{stopOf, modeOf};
+use crate::Mode;
 use crate::Step;
 use crate::found;
 use crate::ident;
@@ -116,14 +117,28 @@ fn triple_of(top: Opened) -> bool
     }
 }
 
-// Lex one token. The text must not have ended.
-pub(crate) fn next(table: &[u8; 256], text: &[u8], at: usize, top: Opened) -> Step
-    requires { ⌜ IsTable (now table) × Here at (now text) ⌝ }
-    ensures { λ r. ⌜ stepMeant r ≡ outcome at (step (innermostOf top) (drop at (now (text .entry)))) ⌝ }
+// The mode of an innermost opener: it changes only where something opens or closes, so `run` keeps it.
+pub(crate) fn mode_of(top: Opened) -> Mode
+    ensures { λ r. ⌜ r ≡ modeOf top ⌝ }
 {
     let stop = stop_of(top);
+    let triple = triple_of(top);
+    Mode {
+        stop: stop,
+        triple: triple,
+        top: top,
+    }
+}
+
+// Lex one token. The text must not have ended.
+pub(crate) fn next(table: &[u8; 256], text: &[u8], at: usize, mode: Mode) -> Step
+    requires { ⌜ IsTable (now table) × Here at (now text) × (mode ≡ modeOf (mode .top)) ⌝ }
+    ensures { λ r. ⌜ stepMeant r ≡ outcome at (step (innermostOf (mode .top)) (drop at (now (text .entry)))) ⌝ }
+{
+    let stop = mode.stop;
     if stop == 0 {
+        let top = mode.top;
         return next_normal(table, text, at, top);
     }
-    string::lex_in_string(text, at, stop, triple_of(top))
+    string::lex_in_string(text, at, stop, mode.triple)
 }

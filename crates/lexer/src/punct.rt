@@ -3,7 +3,7 @@ ghost use mathlib.Core.Path.{_≡_};
 ghost use mathlib.Core.Bool.{cond, _&&_};
 ghost use Prim.Native.Nat.{_+_, _<_, _^_};
 ghost use lib.Dec.{eqb};
-ghost use lib.ListN.{drop};
+ghost use lib.ListN.{drop, getD};
 ghost use Rattle.rules.specs.Text.{is, begins, run};
 ghost use Rattle.rules.specs.Bytes.{isNotLF};
 ghost use Rattle.rules.specs.Refusals.{LoneHash};
@@ -61,26 +61,33 @@ fn open_quote(text: &[u8], at: usize) -> Step
     requires { ⌜ Here at (now text) ⌝ }
     ensures { λ r. ⌜ stepMeant r ≡ outcome at (cond (begins "\"\"" (drop (at + 1) (now (text .entry)))) (foundRule PlainTriple 3) (foundRule PlainDouble 1)) ⌝ }
 {
-    if (scan::byte_at(text, at + 1) == b'"') & (scan::byte_at(text, at + 2) == b'"') {
+    if scan::byte_at(text, at + 1) != b'"' {
         return found(
-            at + 3,
-            Token::QuoteOpen(StringPrefix::None, QuoteStyle::Triple),
-            6,
+            at + 1,
+            Token::QuoteOpen(StringPrefix::None, QuoteStyle::Double),
+            5,
+        );
+    }
+    if scan::byte_at(text, at + 2) != b'"' {
+        return found(
+            at + 1,
+            Token::QuoteOpen(StringPrefix::None, QuoteStyle::Double),
+            5,
         );
     }
     found(
-        at + 1,
-        Token::QuoteOpen(StringPrefix::None, QuoteStyle::Double),
-        5,
+        at + 3,
+        Token::QuoteOpen(StringPrefix::None, QuoteStyle::Triple),
+        6,
     )
 }
 
 // `.`, `..` or `...`.
-fn dots(text: &[u8], at: usize, next: u8) -> Step
+fn dots(text: &[u8], at: usize) -> Step
     requires { ⌜ Here at (now text) ⌝ }
-    ensures { λ r. ⌜ stepMeant r ≡ outcome at (cond (is "." next && begins "." (drop (at + 2) (now (text .entry)))) (foundRule DotDotDot 3) (cond (is "." next) (foundRule DotDot 2) (foundRule Dot 1))) ⌝ }
+    ensures { λ r. ⌜ stepMeant r ≡ outcome at (cond (is "." (getD (now (text .entry)) (at + 1) 0) && begins "." (drop (at + 2) (now (text .entry)))) (foundRule DotDotDot 3) (cond (is "." (getD (now (text .entry)) (at + 1) 0)) (foundRule DotDot 2) (foundRule Dot 1))) ⌝ }
 {
-    if next != b'.' {
+    if scan::byte_at(text, at + 1) != b'.' {
         return found(at + 1, Token::Dot, 53);
     }
     if scan::byte_at(text, at + 2) == b'.' {
@@ -91,51 +98,51 @@ fn dots(text: &[u8], at: usize, next: u8) -> Step
 
 // One byte of punctuation, or two where `second` follows it.
 fn one_or_two(
+    text: &[u8],
     at: usize,
-    next: u8,
     second: u8,
     two: Token,
     kindtwo: u8,
     one: Token,
     kindone: u8,
 ) -> Step
-    requires { ⌜ (at < 2 ^ 48) × (kindtwo ≡ codeOf two) × (kindone ≡ codeOf one) ⌝ }
-    ensures { λ r. ⌜ stepMeant r ≡ outcome at (cond (eqb next second) (foundRule (codeOf two) 2) (foundRule (codeOf one) 1)) ⌝ }
+    requires { ⌜ Here at (now text) × (kindtwo ≡ codeOf two) × (kindone ≡ codeOf one) ⌝ }
+    ensures { λ r. ⌜ stepMeant r ≡ outcome at (cond (eqb (getD (now (text .entry)) (at + 1) 0) second) (foundRule (codeOf two) 2) (foundRule (codeOf one) 1)) ⌝ }
 {
-    if next == second {
+    if scan::byte_at(text, at + 1) == second {
         return found(at + 2, two, kindtwo);
     }
     found(at + 1, one, kindone)
 }
 
 // `=`, `==` or `=>`.
-fn equals(at: usize, next: u8) -> Step
-    requires { ⌜ at < 2 ^ 48 ⌝ }
-    ensures { λ r. ⌜ stepMeant r ≡ outcome at (cond (is "=" next) (foundRule Eq2 2) (cond (is ">" next) (foundRule FatArrow 2) (foundRule Eq1 1))) ⌝ }
+fn equals(text: &[u8], at: usize) -> Step
+    requires { ⌜ Here at (now text) ⌝ }
+    ensures { λ r. ⌜ stepMeant r ≡ outcome at (cond (is "=" (getD (now (text .entry)) (at + 1) 0)) (foundRule Eq2 2) (cond (is ">" (getD (now (text .entry)) (at + 1) 0)) (foundRule FatArrow 2) (foundRule Eq1 1))) ⌝ }
 {
-    if next == b'=' {
+    if scan::byte_at(text, at + 1) == b'=' {
         return found(at + 2, Token::Eq2, 43);
     }
-    one_or_two(at, next, b'>', Token::FatArrow, 46, Token::Eq1, 47)
+    one_or_two(text, at, b'>', Token::FatArrow, 46, Token::Eq1, 47)
 }
 
 // `//` and what follows it to before the line end, or `/`.
-fn slash(text: &[u8], at: usize, next: u8) -> Step
+fn slash(text: &[u8], at: usize) -> Step
     requires { ⌜ Here at (now text) ⌝ }
-    ensures { λ r. ⌜ stepMeant r ≡ outcome at (cond (is "/" next) (foundRule LineComment (run isNotLF (drop at (now (text .entry))))) (foundRule Slash 1)) ⌝ }
+    ensures { λ r. ⌜ stepMeant r ≡ outcome at (cond (is "/" (getD (now (text .entry)) (at + 1) 0)) (foundRule LineComment (run isNotLF (drop at (now (text .entry))))) (foundRule Slash 1)) ⌝ }
 {
-    if next == b'/' {
+    if scan::byte_at(text, at + 1) == b'/' {
         return found(scan::line_end(text, at), Token::LineComment, 3);
     }
     found(at + 1, Token::Slash, 56)
 }
 
 // `#!` and what follows it to before the line end. Comments are written with '//', not with '#'.
-fn hash(text: &[u8], at: usize, next: u8) -> Step
+fn hash(text: &[u8], at: usize) -> Step
     requires { ⌜ Here at (now text) ⌝ }
-    ensures { λ r. ⌜ stepMeant r ≡ outcome at (cond (is "!" next) (foundRule Shebang (run isNotLF (drop at (now (text .entry))))) (stop LoneHash 0 1)) ⌝ }
+    ensures { λ r. ⌜ stepMeant r ≡ outcome at (cond (is "!" (getD (now (text .entry)) (at + 1) 0)) (foundRule Shebang (run isNotLF (drop at (now (text .entry))))) (stop LoneHash 0 1)) ⌝ }
 {
-    if next == b'!' {
+    if scan::byte_at(text, at + 1) == b'!' {
         return found(scan::line_end(text, at), Token::Shebang, 2);
     }
     refused(13, at, at + 1)
@@ -146,7 +153,6 @@ pub(crate) fn lex_in_punct(text: &[u8], at: usize, top: Opened) -> Step
     requires { ⌜ Here at (now text) ⌝ }
     ensures { λ r. ⌜ stepMeant r ≡ outcome at (punctuated (innermostOf top) (drop at (now (text .entry)))) ⌝ }
 {
-    let next = scan::byte_at(text, at + 1);
     match text[at] {
         b'(' => found(at + 1, Token::LParen, 33),
         b'[' => found(at + 1, Token::LBracket, 35),
@@ -161,14 +167,14 @@ pub(crate) fn lex_in_punct(text: &[u8], at: usize, top: Opened) -> Step
         b']' => pop_delimiter(at, top, 35, Token::RBracket, 36),
         b'}' => close_brace(at, top),
         b'"' => open_quote(text, at),
-        b'<' => one_or_two(at, next, b'=', Token::LtEq, 41, Token::Lt, 39),
-        b'>' => one_or_two(at, next, b'=', Token::GtEq, 42, Token::Gt, 40),
-        b'=' => equals(at, next),
-        b'!' => one_or_two(at, next, b'=', Token::Neq, 44, Token::Bang, 48),
-        b'-' => one_or_two(at, next, b'>', Token::ThinArrow, 45, Token::Minus, 52),
-        b'.' => dots(text, at, next),
-        b'/' => slash(text, at, next),
-        b'#' => hash(text, at, next),
+        b'<' => one_or_two(text, at, b'=', Token::LtEq, 41, Token::Lt, 39),
+        b'>' => one_or_two(text, at, b'=', Token::GtEq, 42, Token::Gt, 40),
+        b'=' => equals(text, at),
+        b'!' => one_or_two(text, at, b'=', Token::Neq, 44, Token::Bang, 48),
+        b'-' => one_or_two(text, at, b'>', Token::ThinArrow, 45, Token::Minus, 52),
+        b'.' => dots(text, at),
+        b'/' => slash(text, at),
+        b'#' => hash(text, at),
         _ => refused(12, at, at + 1),
     }
 }

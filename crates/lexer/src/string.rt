@@ -77,7 +77,13 @@ fn closes(text: &[u8], at: usize, triple: bool) -> bool
     requires { ⌜ Here at (now text) ⌝ }
     ensures { λ r. ⌜ r ≡ (not triple || is "\"" (getD (now (text .entry)) (at + 1) 0) && is "\"" (getD (now (text .entry)) (at + 2) 0)) ⌝ }
 {
-    !triple | (scan::byte_at(text, at + 1) == b'"') & (scan::byte_at(text, at + 2) == b'"')
+    if !triple {
+        return true;
+    }
+    if scan::byte_at(text, at + 1) != b'"' {
+        return false;
+    }
+    scan::byte_at(text, at + 2) == b'"'
 }
 
 // The length of a closing quote.
@@ -92,7 +98,7 @@ fn quote_length(triple: bool) -> usize
 
 // Continue lexing inside a string; `stop` is the brace in a format string, a quote in a plain one. We know that one byte is not a `\` or a closing
 // quote for sure, then we take until one is, or until a newline. This ensures that we break up the inner parts of the string into lines, where every
-// '\n' occurs at the start of a line. This makes it easy to strip the leading whitespace later in """-strings.
+// '\n' occurs at the start of a line. This makes it easy to strip the leading whitespace later in """-strings. An empty line is found without a search.
 pub(crate) fn lex_in_string(text: &[u8], at: usize, stop: u8, triple: bool) -> Step
     requires { ⌜ Here at (now text) ⌝ }
     ensures { λ r. ⌜ Quoted at (drop at (now (text .entry))) stop triple (stepMeant r) ⌝ }
@@ -109,6 +115,9 @@ pub(crate) fn lex_in_string(text: &[u8], at: usize, stop: u8, triple: bool) -> S
         if a == stop {
             return found(at + 1, Token::HoleOpen, 14);
         }
+    }
+    if (a == b'\n') & (scan::byte_at(text, at + 1) == b'\n') {
+        return found(at + 1, Token::StringInner, 10);
     }
     found(scan::inner_end(text, at + 1, stop), Token::StringInner, 10)
 }

@@ -1,9 +1,10 @@
 -- Laws of a list in two arrays: how many lexemes stand in it, and which one stands at a place.
 use Prim.Native.Nat.{ℕ, zero, suc, _+_, _*_, _≤_, _<_}
+use native.Mathlib.Numerals.{add-one}
 use native.Mathlib.Omega.{arith}
 use mathlib.Core.Path.{_≡_, refl}
 use mathlib.Core.List.{List, [], _∷_}
-use lib.ListN.{length, getD, take, drop, drop-of-length-le}
+use lib.ListN.{length, getD, take, drop, length-take, drop-of-length-le}
 use Rattle.rules.specs.Spans.{nowhere, spanOf}
 use Rattle.rules.specs.Kinds.{Space}
 use Rattle.rules.specs.Lexing.{Lexeme, lexeme, placesOf, lexemesIn}
@@ -28,6 +29,12 @@ first-taken zero ls i lt = absurd (omega arith)
 first-taken (suc n) [] i lt = refl
 first-taken (suc n) (l ∷ ls) zero lt = refl
 first-taken (suc n) (l ∷ ls) (suc i) lt = first-taken n ls i (omega arith)
+
+-- from a place among the first lexemes on, a list is the lexeme at that place and those behind it
+pub from-place : (n : ℕ) (ls : List Lexeme) (i : ℕ) (l : Lexeme) → i < length (take n ls) → l ≡ firstOf (drop i ls) → drop i (take n ls) ≡ l ∷ drop (i + 1) (take n ls)
+from-place n ls i l lt e =
+    let among : i < n = omega (arith, lt, length-take n ls) in
+    rw (add-one i, e, ← (first-taken n ls i among)) (first-drop (take n ls) i lt)
 
 -- past the last lexeme stands a Space at 0-0
 pub first-past : (ls : List Lexeme) (i : ℕ) → length ls ≤ i → firstOf (drop i ls) ≡ lexeme Space nowhere

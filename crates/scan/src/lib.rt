@@ -1,7 +1,7 @@
 // Runs of bytes: where the bytes that pass a test end. A position past the text's end is its own end.
 ghost use mathlib.Core.Path.{_≡_};
 ghost use mathlib.Core.Bool.{cond, not};
-ghost use Prim.Native.Nat.{_+_, _≤_, min};
+ghost use Prim.Native.Nat.{_+_, _-_, _≤_, min};
 ghost use lib.ListN.{length, drop, getD};
 ghost use Rattle.rules.specs.Text.{is, run};
 ghost use Rattle.rules.specs.Bytes.{isDigit, isHexDigit, isNotLF, isWhitespace};
@@ -86,6 +86,17 @@ pub fn digits_end(text: &[u8], at: usize) -> usize
     i
 }
 
+// Before this place more than `least` bytes are left.
+fn room(text: &[u8], least: usize) -> usize
+    ensures { λ r. ⌜ r ≡ length (now (text .entry)) - least ⌝ }
+{
+    let n = text.len();
+    if n < least {
+        return 0;
+    }
+    n - least
+}
+
 // `place` where something was found there, else `none`.
 fn place_if(found: bool, place: u8, none: u8) -> u8
     ensures { λ r. ⌜ r ≡ cond found place none ⌝ }
@@ -134,14 +145,13 @@ fn line_bytes(text: &[u8], at: usize) -> usize
     i
 }
 
-// The end of a line: blocks of 64 bytes until one has it.
-fn line_end_from(text: &[u8], at: usize) -> usize
-    requires { ⌜ at ≤ length (now text) ⌝ }
+// The end of a line, before its LF: blocks of 64 bytes until one has it.
+pub fn line_end(text: &[u8], at: usize) -> usize
     ensures { λ r. ⌜ r ≡ at + run isNotLF (drop at (now (text .entry))) ⌝ }
 {
-    let n = text.len();
+    let last = room(text, 63);
     let mut i = at;
-    while 64 <= n - i {
+    while i < last {
         let first = line_first(text, i);
         if first < 64 {
             return i + first;
@@ -149,16 +159,6 @@ fn line_end_from(text: &[u8], at: usize) -> usize
         i += 64;
     }
     line_bytes(text, i)
-}
-
-// The end of a line, before its LF.
-pub fn line_end(text: &[u8], at: usize) -> usize
-    ensures { λ r. ⌜ r ≡ at + run isNotLF (drop at (now (text .entry))) ⌝ }
-{
-    if text.len() < at {
-        return at;
-    }
-    line_end_from(text, at)
 }
 
 // Whether a byte ends an inner part of a string; `stop` is the brace in a format string, a quote in a plain one.
@@ -198,13 +198,12 @@ fn inner_bytes(text: &[u8], at: usize, stop: u8) -> usize
 }
 
 // Where an inner part ends: blocks of 32 bytes until one has its end.
-fn inner_end_from(text: &[u8], at: usize, stop: u8) -> usize
-    requires { ⌜ at ≤ length (now text) ⌝ }
+fn inner_blocks(text: &[u8], at: usize, stop: u8) -> usize
     ensures { λ r. ⌜ r ≡ at + run (isInnerFor stop) (drop at (now (text .entry))) ⌝ }
 {
-    let n = text.len();
+    let last = room(text, 31);
     let mut i = at;
-    while 32 <= n - i {
+    while i < last {
         let first = inner_first(text, i, stop);
         if first < 32 {
             return i + first;
@@ -214,14 +213,17 @@ fn inner_end_from(text: &[u8], at: usize, stop: u8) -> usize
     inner_bytes(text, i, stop)
 }
 
-// Where an inner part ends.
+// Where an inner part ends. Blocks are read faster where the stop is a constant, and the lexer has only these two.
 pub fn inner_end(text: &[u8], at: usize, stop: u8) -> usize
     ensures { λ r. ⌜ r ≡ at + run (isInnerFor stop) (drop at (now (text .entry))) ⌝ }
 {
-    if text.len() < at {
-        return at;
+    if stop == b'"' {
+        return inner_blocks(text, at, b'"');
     }
-    inner_end_from(text, at, stop)
+    if stop == b'{' {
+        return inner_blocks(text, at, b'{');
+    }
+    inner_bytes(text, at, stop)
 }
 
 // A run of whitespace: where it ends, and how many line ends it has.
@@ -315,14 +317,11 @@ fn whitespace_run(text: &[u8], at: usize) -> Measured
 fn stands_alone(text: &[u8], at: usize) -> bool
     ensures { λ r. ⌜ AloneIf r (now (text .entry)) at ⌝ }
 {
-    if text.len() <= at {
+    if room(text, 1) <= at {
         return false;
     }
     let b = text[at];
     if !((b == b' ') | (b == b'\n')) {
-        return false;
-    }
-    if text.len() <= at + 1 {
         return false;
     }
     b' ' < text[at + 1]

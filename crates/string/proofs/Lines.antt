@@ -1,8 +1,7 @@
 -- Laws of lines and parts: the spaces of a line, what a part that is accepted tells, and the indent from any part on.
-use Prim.Native.Nat.{ℕ, _+_, _-_, _≤_, _<_, min}
+use Prim.Native.Nat.{ℕ, _+_, _-_, _<_, min}
 use Prim.Native.Char.{Char}
 use Prim.Native.String as S
-use native.Mathlib.Numerals.{add-one}
 use native.Mathlib.Omega.{arith}
 use mathlib.Core.Path.{_≡_, refl, sym, ap, _∙_}
 use mathlib.Core.Bool.{Bool, true, false, cond, not, _&&_, false≢true}
@@ -12,15 +11,13 @@ use lib.Dec.{leb}
 use lib.ListN.{length, take, drop, length-take, length-drop}
 use borrow.Author.Tests.{eq-eqb, ne-eqb}
 use lib.Seq.{take-take, take-length}
-use Rattle.rules.specs.Text.{is, begins}
+use Rattle.rules.specs.Text.{begins}
 use Rattle.rules.specs.Refusals.{BadSpan, WrongForm}
 use Rattle.rules.specs.Spans.{Refusal, Answer, given, refused, refuse, Verdict, accepted, nowhere, isBad, bytesAt, resolved}
 use Rattle.rules.specs.Kinds.{StringInner, HoleOpen, between}
 use Rattle.rules.specs.Lexing.{Lexeme, lexemesIn}
 use Rattle.rules.specs.Indent.{andThen, firstRefusal, partVerdict, isStringPart, spacesAfter, isBlankLine, stringNext, indentsOf, fewest, indentOf, indentCall}
-use Rattle.rules.proofs.Runs.{run-le}
 use Rattle.list.specs.Entries.{firstOf}
-use Rattle.list.proofs.Entries.{first-drop, first-taken}
 use Rattle.cst.specs.Meaning.{ifPart}
 use Rattle.string.specs.Meaning.{partChecked}
 use Rattle.string.specs.Indents.{fewestMeant, lineIndents, partIndents, fewer}
@@ -44,10 +41,6 @@ blank-last w e = eq-eqb (spacesAfter w) (length (drop 1 w)) (e ∙ sym (length-d
 -- and is not where they are not
 pub blank-not : (w : List ℕ) → (spacesAfter w ≡ length w - 1 → ⊥) → isBlankLine w ≡ false
 blank-not w n = ne-eqb (spacesAfter w) (length (drop 1 w)) (λ e. n (e ∙ length-drop 1 w))
-
--- the spaces after the first byte are at most the bytes after it
-pub spaces-within : (w : List ℕ) → spacesAfter w ≤ length (drop 1 w)
-spaces-within w = run-le (is " ") (drop 1 w)
 
 -- what is told where nothing is said against a part: its span is not bad, its kind is a part's, and it ends within the text
 accepted-tells : (text : List ℕ) (p : Lexeme) → partVerdict text p ≡ accepted → (isBad (p .at) ≡ false) × (between StringInner HoleOpen (p .kind) ≡ true) × (leb (p .at .end) (length text) ≡ true)
@@ -124,12 +117,6 @@ no-part-kind l h = by (between StringInner HoleOpen (l .kind)) h
     by : (b : Bool) → none ≡ cond b (some l) none → b ≡ false
     by true e = let w : _≡_ {A = ℕ} 0 1 = cc in absurd (omega arith)
     by false e = refl
-
--- from a place before its end on, a list is the lexeme at that place and those behind it
-pub from-place : (end : ℕ) (ls : List Lexeme) (i : ℕ) (l : Lexeme) → length (take end ls) ≡ end → i < end → l ≡ firstOf (drop i ls) → drop i (take end ls) ≡ l ∷ drop (i + 1) (take end ls)
-from-place end ls i l whole lt e =
-    let there : i < length (take end ls) = omega arith in
-    rw (add-one i, e, ← (first-taken end ls i lt)) (first-drop (take end ls) i there)
 
 -- whether the next part is a String is read off the first of those that follow
 pub next-first : (ps : List Lexeme) → stringNext ps ≡ isStringPart (firstOf ps)

@@ -1,13 +1,12 @@
 -- Laws of the gaps, and of the pieces of a list as they are written one after another.
 use Prim.Native.Nat.{ℕ, _+_, _≤_, _<_}
 use native.Mathlib.Nat.{zero-add}
-use native.Mathlib.Numerals.{add-one}
 use native.Mathlib.Omega.{arith}
 use mathlib.Core.Path.{_≡_, refl, sym, ap, _∙_}
 use mathlib.Core.Bool.{Bool, true, false, cond, _&&_, _||_}
 use mathlib.Core.List.{List, [], _∷_, _++_, append-assoc, append-nil}
 use lib.Dec.{leb, eqb}
-use lib.ListN.{length, take, drop, length-append, length-take, drop-of-length-le}
+use lib.ListN.{length, drop, length-append, drop-of-length-le}
 use borrow.Author.Tests.{eqb-true, eqb-false, le-leb, lt-leb, leb-true, leb-false}
 use Rattle.rules.specs.Text.{ascii}
 use Rattle.rules.specs.Refusals.{OutputFull}
@@ -18,8 +17,6 @@ use Rattle.rules.specs.Output.{endOf, Written, chunk, written, overwritten}
 use Rattle.rules.specs.Tidy.{gap}
 use Rattle.rules.proofs.Text.{decide}
 use Rattle.source.specs.Meaning.{partOf}
-use Rattle.list.specs.Entries.{firstOf}
-use Rattle.list.proofs.Entries.{first-drop, first-taken}
 use Rattle.output.specs.Places.{Put}
 use Rattle.output.proofs.Overwritten.{end-within, end-limit, end-overwritten, overwritten-nothing, overwritten-length, overwritten-two, put-true, put-false, written-fits, written-stops, written-nothing}
 use Rattle.tidy.specs.Pieces.{joinsNext, piecesAfter, WritesPieces}
@@ -59,12 +56,6 @@ gap-joins a b =
     two true false = refl
     two false true = refl
     two false false = refl
-
--- from a place among the first lexemes on, a list is the lexeme at that place and those behind it
-pub from-place : (count : ℕ) (all : List Lexeme) (i : ℕ) (l : Lexeme) → i < length (take count all) → l ≡ firstOf (drop i all) → drop i (take count all) ≡ l ∷ drop (i + 1) (take count all)
-from-place count all i l lt e =
-    let among : i < count = omega (arith, lt, length-take count all) in
-    rw (add-one i, e, ← (first-taken count all i among)) (first-drop (take count all) i lt)
 
 -- what is to be written of all lexemes of a list
 abbrev pub allOf : (text : List ℕ) → List Lexeme → (out : List ℕ) → Written

@@ -16,7 +16,8 @@ use Rattle.list.specs.Entries.{entryMeant}
 use Rattle.output.specs.Places.{Put}
 use Rattle.output.proofs.Overwritten.{put-false}
 use Rattle.tidy.specs.Gaps.{gapMeant}
-use Rattle.tidy.proofs.Written.{from-place, pieceOf, Writing, writing-start, writing-length, put-limit, writing-on, writing-stop, writing-end}
+use Rattle.list.proofs.Entries.{from-place}
+use Rattle.tidy.proofs.Written.{pieceOf, Writing, writing-start, writing-length, put-limit, writing-on, writing-stop, writing-end}
 use Rattle.tidy.proofs.write_lexemes.Statement.{statement}
 use Rattle.tidy.proofs.write_lexemes.Tie as tie
 

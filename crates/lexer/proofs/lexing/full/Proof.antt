@@ -1,18 +1,21 @@
--- A stack with a place is not full; else an opener meets it (`full-shallow`, `full-opener`, `full-other`).
-use mathlib.Core.Path.{sym, _∙_}
+-- The tests are the definition's.
 use borrow.Author.Needs.{needs}
-use Rattle.lexer.proofs.Parts.{full-shallow, full-opener, full-other}
+use borrow.Author.Tests.{le-leb, lt-leb}
 use Rattle.lexer.proofs.lexing.full.Statement.{statement}
 use Rattle.lexer.proofs.lexing.full.Tie as tie
 
 returns : tie.Need-returns
-returns c = c .list-full .ensures ∙ full-shallow _ _ _ _ (c .before .before .before .pre) (c .before .if1 .taken)
+returns c =
+    let a = c .before .before .args in
+    rw (le-leb (a .stack) (a .cur .depth) (c .if1 .taken))
+
+list-full-requires : tie.Need-list-full-requires
+list-full-requires c κs = search needs
 
 returns-2 : tie.Need-returns-2
-returns-2 c = full-opener _ _ _ _ (c .before .before .if1 .left) (sym (c .before .opens .ensures) ∙ c .if2 .taken)
-
-returns-3 : tie.Need-returns-3
-returns-3 c = c .list-full2 .ensures ∙ full-other _ _ _ _ (c .before .before .before .before .before .pre) (sym (c .before .before .opens .ensures) ∙ c .before .if2 .left)
+returns-2 c =
+    let a = c .before .before .before .args in
+    rw (lt-leb (a .stack) (a .cur .depth) (c .before .if1 .left)) (c .list-full .ensures)
 
 pub full-spec : {M : Type 1} → statement M
-full-spec = tie.close (tie.spec (λ c κs. search needs) returns (λ c κs. search needs) returns-2 (λ c κs. search needs) returns-3)
+full-spec = tie.close (tie.spec returns list-full-requires returns-2)

@@ -1,36 +1,30 @@
 -- The byte that ends an inner part tells strings from what is outside.
-use Rattle.lexer.proofs.Steps.{step-outside, step-inside}
+use mathlib.Core.Path.{ap}
 use lib.ListN.{drop}
-use Rattle.lexer.specs.Outcome.{innermostOf}
 use borrow.Author.Needs.{needs}
+use Rattle.lexer.specs.Outcome.{innermostOf}
+use Rattle.lexer.specs.declared.Mode.{Mode}
+use Rattle.lexer.proofs.Steps.{step-outside, step-inside}
 use Rattle.lexer.proofs.next.next.Statement.{statement}
 use Rattle.lexer.proofs.next.next.Tie as tie
-
-stop-of-requires : tie.Need-stop-of-requires
-stop-of-requires c κs = search needs
 
 next-normal-requires : tie.Need-next-normal-requires
 next-normal-requires c κs = search needs
 
 returns : tie.Need-returns
-returns c = rw (step-outside (innermostOf (c .before .before .before .before .args .top)) _ (drop (c .before .before .before .before .args .at) (c .before .before .before .before .args .text .now)) (c .before .before .stop-of .ensures) (c .before .if1 .taken)) (c .next-normal .ensures)
-
-triple-of-requires : tie.Need-triple-of-requires
-triple-of-requires c κs = search needs
+returns c =
+    let start = c .before .before .before in
+    let a = start .args in
+    rw (step-outside (innermostOf (a .mode .top)) (a .mode .stop) (drop (a .at) (a .text .now)) (ap (λ (m : Mode). m .stop) (start .pre .2)) (c .before .if1 .taken)) (c .next-normal .ensures)
 
 lex-in-string-requires : tie.Need-lex-in-string-requires
 lex-in-string-requires c κs = search needs
 
 returns-2 : tie.Need-returns-2
-returns-2 c = step-inside (innermostOf (c .before .before .before .before .before .args .top)) _ _ (c .before .before .before .before .before .args .at) (drop (c .before .before .before .before .before .args .at) (c .before .before .before .before .before .args .text .now)) _ (c .before .before .before .stop-of .ensures) (c .before .before .if1 .left) (c .before .triple-of .ensures) (c .lex-in-string .ensures)
+returns-2 c =
+    let start = c .before .before .before in
+    let a = start .args in
+    step-inside (innermostOf (a .mode .top)) (a .mode .stop) (a .mode .triple) (a .at) (drop (a .at) (a .text .now)) _ (ap (λ (m : Mode). m .stop) (start .pre .2)) (c .before .if1 .left) (ap (λ (m : Mode). m .triple) (start .pre .2)) (c .lex-in-string .ensures)
 
 pub next-spec : {M : Type 1} → statement M
-next-spec =
-    tie.close
-    (tie.spec
-    stop-of-requires
-    next-normal-requires
-    returns
-    triple-of-requires
-    lex-in-string-requires
-    returns-2)
+next-spec = tie.close (tie.spec next-normal-requires returns lex-in-string-requires returns-2)

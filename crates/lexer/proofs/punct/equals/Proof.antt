@@ -14,6 +14,8 @@ equals-spec =
     (tie.spec
     (λ c. search needs)
     (λ c κs. search needs)
-    (λ c. rw (c .found .ensures, eq-eqb _ (code "=") (c .before .if1 .taken)) refl)
+    (λ c. search needs)
     (λ c κs. search needs)
-    (λ c. rw (c .one-or-two .ensures, ne-eqb _ (code "=") (c .before .if1 .left)) refl))
+    (λ c. rw (c .found .ensures, ← c .before .before .byte-at .ensures, eq-eqb _ (code "=") (c .before .if1 .taken)) refl)
+    (λ c κs. search needs)
+    (λ c. rw (c .one-or-two .ensures, ← c .before .before .byte-at .ensures, ne-eqb _ (code "=") (c .before .if1 .left)) refl))

@@ -11,7 +11,9 @@ one-or-two-spec =
     (tie.spec
     (λ c. search needs)
     (λ c κs. search needs)
-    (λ c. rw (c .found .ensures, eq-eqb _ _ (c .before .if1 .taken)) refl)
     (λ c. search needs)
     (λ c κs. search needs)
-    (λ c. rw (c .found2 .ensures, ne-eqb _ _ (c .before .if1 .left)) refl))
+    (λ c. rw (c .found .ensures, ← c .before .before .byte-at .ensures, eq-eqb _ _ (c .before .if1 .taken)) refl)
+    (λ c. search needs)
+    (λ c κs. search needs)
+    (λ c. rw (c .found2 .ensures, ← c .before .before .byte-at .ensures, ne-eqb _ _ (c .before .if1 .left)) refl))

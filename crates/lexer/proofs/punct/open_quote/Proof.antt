@@ -1,6 +1,8 @@
--- Two quotes at a position are the bytes there and after it.
+-- The branches decide the tests; two quotes at a position are the bytes there and after it.
+use Prim.Native.Char.{code}
 use mathlib.Core.Path.{refl}
 use native.Mathlib.Nat.{add-assoc}
+use borrow.Author.Tests.{eq-eqb, ne-eqb}
 use borrow.Author.Needs.{needs}
 use Rattle.rules.proofs.Runs.{begins-more, begins-at}
 use Rattle.token.specs.Codes.{codeOf}
@@ -16,9 +18,12 @@ open-quote-spec =
     (λ c κs. search needs)
     (λ c. search needs)
     (λ c κs. search needs)
+    (λ c. rw (c .found .ensures, begins-more "\"" "\"" _ _ refl, ← c .before .before .byte-at .ensures, ne-eqb _ (code "\"") (c .before .if1 .taken)) refl)
     (λ c. search needs)
     (λ c κs. search needs)
-    (λ c. rw (c .found .ensures, begins-more "\"" "\"" _ _ refl, begins-at "\"" _ _ refl, add-assoc _ 1 1, ← c .before .before .byte-at2 .ensures, ← c .before .before .before .byte-at .ensures, c .before .if1 .taken) refl)
     (λ c. search needs)
     (λ c κs. search needs)
-    (λ c. rw (c .found2 .ensures, begins-more "\"" "\"" _ _ refl, begins-at "\"" _ _ refl, add-assoc _ 1 1, ← c .before .before .byte-at2 .ensures, ← c .before .before .before .byte-at .ensures, c .before .if1 .left) refl))
+    (λ c. rw (c .found2 .ensures, begins-more "\"" "\"" _ _ refl, begins-at "\"" _ _ refl, add-assoc _ 1 1, ← c .before .before .byte-at2 .ensures, ← c .before .before .before .before .byte-at .ensures, eq-eqb _ (code "\"") (c .before .before .before .if1 .left), ne-eqb _ (code "\"") (c .before .if2 .taken)) refl)
+    (λ c. search needs)
+    (λ c κs. search needs)
+    (λ c. rw (c .found3 .ensures, begins-more "\"" "\"" _ _ refl, begins-at "\"" _ _ refl, add-assoc _ 1 1, ← c .before .before .byte-at2 .ensures, ← c .before .before .before .before .byte-at .ensures, eq-eqb _ (code "\"") (c .before .before .before .if1 .left), eq-eqb _ (code "\"") (c .before .if2 .left)) refl))

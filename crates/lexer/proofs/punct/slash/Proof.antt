@@ -12,9 +12,11 @@ unfolding codeOf
 slash-spec =
     tie.close
     (tie.spec
-    (λ c κs. search needs)
-    (λ c κs. search needs)
-    (λ c. rw (c .found .ensures, c .before .line-end .ensures, eq-eqb _ (code "/") (c .before .before .if1 .taken)) refl)
     (λ c. search needs)
     (λ c κs. search needs)
-    (λ c. rw (c .found2 .ensures, ne-eqb _ (code "/") (c .before .if1 .left)) refl))
+    (λ c κs. search needs)
+    (λ c κs. search needs)
+    (λ c. rw (c .found .ensures, c .before .line-end .ensures, ← c .before .before .before .byte-at .ensures, eq-eqb _ (code "/") (c .before .before .if1 .taken)) refl)
+    (λ c. search needs)
+    (λ c κs. search needs)
+    (λ c. rw (c .found2 .ensures, ← c .before .before .byte-at .ensures, ne-eqb _ (code "/") (c .before .if1 .left)) refl))

@@ -1,24 +1,19 @@
--- The bytes after the quote.
+-- The branches decide the tests of the bytes after the quote.
+use Prim.Native.Char.{code}
 use mathlib.Core.Path.{refl}
+use borrow.Author.Tests.{eq-eqb, ne-eqb}
 use borrow.Author.Needs.{needs}
 use Rattle.lexer.proofs.string.closes.Statement.{statement}
 use Rattle.lexer.proofs.string.closes.Tie as tie
 
-add-byte-at : tie.Need-add-byte-at
-add-byte-at c = search needs
-
-byte-at-requires : tie.Need-byte-at-requires
-byte-at-requires c κs = search needs
-
-add-byte-at-2 : tie.Need-add-byte-at-2
-add-byte-at-2 c = search needs
-
-byte-at-requires-2 : tie.Need-byte-at-requires-2
-byte-at-requires-2 c κs = search needs
-
-returns : tie.Need-returns
-returns c = rw (c .before .byte-at .ensures, c .byte-at2 .ensures) refl
-
 pub closes-spec : {M : Type 1} → statement M
 closes-spec =
-    tie.close (tie.spec add-byte-at byte-at-requires add-byte-at-2 byte-at-requires-2 returns)
+    tie.close
+    (tie.spec
+    (λ c. search needs)
+    (λ c. search needs)
+    (λ c κs. search needs)
+    (λ c. rw (c .before .before .if1 .left, ← c .before .byte-at .ensures, ne-eqb _ (code "\"") (c .if2 .taken)) refl)
+    (λ c. search needs)
+    (λ c κs. search needs)
+    (λ c. rw (c .byte-at2 .ensures, c .before .before .before .if1 .left, ← c .before .before .byte-at .ensures, eq-eqb _ (code "\"") (c .before .if2 .left)) refl))

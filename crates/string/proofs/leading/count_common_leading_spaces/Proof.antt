@@ -11,7 +11,8 @@ use Rattle.rules.specs.Indent.{partVerdict, stringNext, indentCall}
 use Rattle.list.specs.Entries.{entryMeant}
 use Rattle.string.specs.Meaning.{checkedMeant, orSpaces}
 use Rattle.string.specs.Indents.{fewestMeant, partIndents}
-use Rattle.string.proofs.Lines.{indentFrom, indent-start, indent-on, indent-stop, indent-end, part-accepted, part-same, part-refused, from-place}
+use Rattle.list.proofs.Entries.{from-place}
+use Rattle.string.proofs.Lines.{indentFrom, indent-start, indent-on, indent-stop, indent-end, part-accepted, part-same, part-refused}
 use Rattle.string.proofs.leading.count_common_leading_spaces.Statement.{statement}
 use Rattle.string.proofs.leading.count_common_leading_spaces.Tie as tie
 
@@ -41,7 +42,7 @@ returns c =
     let ns = fewestMeant (l .loop .n-spaces) in
     let entry = entryMeant (k .before .get .result) in
     let behind = drop (l .loop .i + 1) (take (l .before .end .result) ls) in
-    let here = from-place (l .before .end .result) ls (l .loop .i) entry (l .loop .inv .1) (k .before .before .loop-test .taken) (k .before .get .ensures) in
+    let here = from-place (l .before .end .result) ls (l .loop .i) entry (omega (arith, l .loop .inv .1, k .before .before .loop-test .taken)) (k .before .get .ensures) in
     let told = ap checkedMeant (c .before .enum-told .given .1) in
     let no-part = part-refused text entry _ (sym told ∙ k .check .ensures) in
     c .not-checked .ensures ∙ ap orSpaces told ∙ sym (l .loop .inv .2 ∙ ap (indentFrom text ns) here ∙ indent-stop text ns entry behind _ no-part)
@@ -57,7 +58,7 @@ loop-again c =
     let entry = entryMeant (k .before .get .result) in
     let ns = fewestMeant (l .loop .n-spaces) in
     let behind = drop (l .loop .i + 1) (take (l .before .end .result) ls) in
-    let here = from-place (l .before .end .result) ls (l .loop .i) entry (l .loop .inv .1) (k .before .before .loop-test .taken) (k .before .get .ensures) in
+    let here = from-place (l .before .end .result) ls (l .loop .i) entry (omega (arith, l .loop .inv .1, k .before .before .loop-test .taken)) (k .before .get .ensures) in
     let told = ap checkedMeant (sym (s .before .before .answer .given .1)) ∙ k .check .ensures in
     let fine : partVerdict text entry ≡ accepted = part-accepted text entry _ told in
     let adds : fewestMeant (c .before .part-indent .result) ≡ partIndents text (stringNext behind) entry = c .before .part-indent .ensures ∙ rw (part-same text entry _ told, s .is-string-at .ensures) in

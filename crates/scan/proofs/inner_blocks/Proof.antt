@@ -6,20 +6,20 @@ use Rattle.scan.specs.Classes.{isInnerFor}
 use Rattle.scan.specs.Reach.{Reach}
 use Rattle.scan.proofs.Reach.{stay, join, over, reached}
 use native.Mathlib.Omega.{arith}
-use Rattle.scan.proofs.inner_end_from.Statement.{statement}
-use Rattle.scan.proofs.inner_end_from.Tie as tie
+use Rattle.scan.proofs.inner_blocks.Statement.{statement}
+use Rattle.scan.proofs.inner_blocks.Tie as tie
 
 abbrev Inv-loop : tie.InvT-loop
-Inv-loop text at stop n i₀ i = Reach (isInnerFor stop) text at i
+Inv-loop text at stop last i₀ i = Reach (isInnerFor stop) text at i
 
 abbrev μ-loop : tie.MeasureT-loop
-μ-loop text at stop n i₀ i = length text - i
+μ-loop text at stop last i₀ i = length text - i
+
+room-requires : tie.Need-room-requires Inv-loop μ-loop
+room-requires c κs = omega arith
 
 loop-holds : tie.Need-loop-holds Inv-loop μ-loop
 loop-holds c = stay
-
-sub-loop : tie.Need-sub-loop Inv-loop μ-loop
-sub-loop c = omega arith
 
 inner-first-requires : tie.Need-inner-first-requires Inv-loop μ-loop
 inner-first-requires c κs = omega arith
@@ -45,14 +45,14 @@ inner-bytes-requires c κs = omega arith
 returns-2 : tie.Need-returns-2 Inv-loop μ-loop
 returns-2 c = c .inner-bytes .ensures ∙ sym (c .before .before .loop .inv .same)
 
-pub inner-end-from-spec : {M : Type 1} → statement M
-inner-end-from-spec =
+pub inner-blocks-spec : {M : Type 1} → statement M
+inner-blocks-spec =
     tie.close
     (tie.spec
     Inv-loop
     μ-loop
+    room-requires
     loop-holds
-    sub-loop
     inner-first-requires
     add-result
     returns
