@@ -5,7 +5,7 @@ use crate::texts;
 /// The size of most texts.
 const USUAL: usize = 4 << 20;
 
-const ALL: [&str; 9] = [
+const ALL: [&str; 11] = [
     "move table",
     "long comments",
     "nested format strings",
@@ -15,14 +15,17 @@ const ALL: [&str; 9] = [
     "ASCII notes",
     "mixed UTF-8 notes",
     "triple-quoted strings",
+    "varied notes",
+    "varied triple-quoted strings",
 ];
 const CHECKED: [&str; 2] = ["move table", "mixed UTF-8 notes"];
-const VALUED: [&str; 5] = [
+const VALUED: [&str; 6] = [
     "nested format strings",
     "long strings",
     "ASCII notes",
     "mixed UTF-8 notes",
     "triple-quoted strings",
+    "varied triple-quoted strings",
 ];
 const WALKED: [&str; 1] = ["move table"];
 const SIZES: [&str; 8] = [
@@ -65,6 +68,8 @@ fn named(name: &str) -> Vec<u8> {
         "ASCII notes" => texts::ascii_notes(USUAL),
         "mixed UTF-8 notes" => texts::mixed_notes(USUAL),
         "triple-quoted strings" => texts::triple_quoted(USUAL),
+        "varied notes" => texts::varied_notes(USUAL),
+        "varied triple-quoted strings" => texts::varied_triple_quoted(USUAL),
         _ => panic!("There is no text {name}."),
     }
 }

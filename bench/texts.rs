@@ -80,3 +80,81 @@ pub fn triple_quoted(size: usize) -> Vec<u8> {
         )
     })
 }
+
+/// Numbers that look random (SplitMix64), and are the same in each run.
+struct Numbers(u64);
+
+impl Numbers {
+    fn of_line(line: usize) -> Numbers {
+        Numbers((line as u64) << 32)
+    }
+
+    fn below(&mut self, bound: u64) -> u64 {
+        self.0 = self.0.wrapping_add(0x9e37_79b9_7f4a_7c15);
+        let z = (self.0 ^ self.0 >> 30).wrapping_mul(0xbf58_476d_1ce4_e5b9);
+        let z = (z ^ z >> 27).wrapping_mul(0x94d0_49bb_1331_11eb);
+        (z ^ z >> 31) % bound
+    }
+
+    fn between(&mut self, least: u64, most: u64) -> u64 {
+        least + self.below(most - least + 1)
+    }
+
+    fn word(&mut self) -> &'static str {
+        WORDS[self.below(WORDS.len() as u64) as usize]
+    }
+
+    /// Words, each with what `after` puts behind it.
+    fn words(&mut self, count: u64, after: impl Fn(&mut Numbers) -> &'static str) -> String {
+        let mut words = String::new();
+        for _ in 0..count {
+            words.push_str(self.word());
+            words.push_str(after(self));
+        }
+        words
+    }
+}
+
+const WORDS: [&str; 16] = [
+    "edge", "of", "the", "tissue", "is", "faint", "scan", "again", "with", "more", "light", "left",
+    "right", "field", "a", "focus",
+];
+
+/// Names, notes and comments whose lengths cannot be foretold: in the other texts
+/// a line is like the one before it, and the processor learns where each loop ends.
+pub fn varied_notes(size: usize) -> Vec<u8> {
+    lines(size, |n| {
+        let numbers = &mut Numbers::of_line(n);
+        let name = numbers.word();
+        let count = numbers.between(1, 9);
+        let note = numbers.words(count, |_| " ");
+        let count = numbers.between(1, 6);
+        match numbers.below(2) {
+            0 => format!("{name}{n} = \"{note}\";\n"),
+            _ => {
+                let comment = numbers.words(count, |_| " ");
+                format!("{name}{n} = \"{note}\"; // {comment}\n")
+            }
+        }
+    })
+}
+
+/// Lines of varied lengths with escapes here and there, and empty lines.
+pub fn varied_triple_quoted(size: usize) -> Vec<u8> {
+    lines(size, |n| {
+        let numbers = &mut Numbers::of_line(n);
+        let mut note = String::new();
+        for _ in 0..numbers.between(2, 5) {
+            let count = numbers.between(2, 10);
+            let line = numbers.words(count, |numbers| match numbers.below(12) {
+                0 => r"\t",
+                1 => ", ",
+                2 => r#" \"x\" "#,
+                _ => " ",
+            });
+            let end = ["\n", "\n", "\n", "\n", "\n", "\n\n"][numbers.below(6) as usize];
+            note.push_str(&format!("    {line}{end}"));
+        }
+        format!("note{n} = \"\"\"\n{note}    \"\"\";\n")
+    })
+}

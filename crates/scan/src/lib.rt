@@ -168,16 +168,16 @@ fn ends_inner(b: u8, stop: u8) -> bool
     (b == b'\\') | (b == b'"') | (b == b'\n') | (b == stop)
 }
 
-// Where in 32 bytes the first one stands that ends an inner part, 32 where none does: a loop without an exit, like `line_first`. Most inner parts are short, so the block is too.
+// Where in 48 bytes the first one stands that ends an inner part, 48 where none does: a loop without an exit, like `line_first`. Most inner parts are shorter than that.
 fn inner_first(text: &[u8], at: usize, stop: u8) -> usize
-    requires { ⌜ at + 32 ≤ length (now text) ⌝ }
-    ensures { λ r. ⌜ Stops (isInnerFor stop) (now (text .entry)) at (at + 32) (at + r) ⌝ }
+    requires { ⌜ at + 48 ≤ length (now text) ⌝ }
+    ensures { λ r. ⌜ Stops (isInnerFor stop) (now (text .entry)) at (at + 48) (at + r) ⌝ }
 {
-    let mut first = 32u8;
+    let mut first = 48u8;
     let mut j = 0u8;
-    while j < 32 {
+    while j < 48 {
         let b = text[at + j as usize];
-        first = least(place_if(ends_inner(b, stop), j, 32), first);
+        first = least(place_if(ends_inner(b, stop), j, 48), first);
         j += 1;
     }
     first as usize
@@ -197,18 +197,18 @@ fn inner_bytes(text: &[u8], at: usize, stop: u8) -> usize
     i
 }
 
-// Where an inner part ends: blocks of 32 bytes until one has its end.
+// Where an inner part ends: blocks of 48 bytes until one has its end.
 fn inner_blocks(text: &[u8], at: usize, stop: u8) -> usize
     ensures { λ r. ⌜ r ≡ at + run (isInnerFor stop) (drop at (now (text .entry))) ⌝ }
 {
-    let last = room(text, 31);
+    let last = room(text, 47);
     let mut i = at;
     while i < last {
         let first = inner_first(text, i, stop);
-        if first < 32 {
+        if first < 48 {
             return i + first;
         }
-        i += 32;
+        i += 48;
     }
     inner_bytes(text, i, stop)
 }

@@ -7,10 +7,10 @@ use Rattle.scan.proofs.inner_first.Statement.{statement}
 use Rattle.scan.proofs.inner_first.Tie as tie
 
 abbrev Inv-loop : tie.InvT-loop
-Inv-loop text at stop first₀ j₀ first j = (j ≤ 32) × Least (isInnerFor stop) text at 32 j first
+Inv-loop text at stop first₀ j₀ first j = (j ≤ 48) × Least (isInnerFor stop) text at 48 j first
 
 abbrev μ-loop : tie.MeasureT-loop
-μ-loop text at stop first₀ j₀ first j = 32 - j
+μ-loop text at stop first₀ j₀ first j = 48 - j
 
 loop-holds : tie.Need-loop-holds Inv-loop μ-loop
 loop-holds c = (omega arith, least-none)
