@@ -1,6 +1,6 @@
 //! Texts that are always compared: the examples of document 01, the small texts
-//! that its readings name, each refusal at least once, each ASCII byte alone, and
-//! the ends of UTF-8's ranges.
+//! that its readings name, each refusal at least once, each ASCII byte alone, the
+//! ends of UTF-8's ranges, and runs about as long as the blocks that are searched at once.
 
 use super::utf8;
 
@@ -14,7 +14,32 @@ pub fn texts() -> Vec<Vec<u8>> {
     ];
     let listed = lists.concat().into_iter().map(<[u8]>::to_vec);
     let bytes = (0x00..=0x7f).map(|byte| vec![byte]);
-    listed.chain(bytes).chain(utf8::texts()).collect()
+    let texts = listed.chain(bytes).chain(utf8::texts());
+    texts.chain(LENGTHS.iter().flat_map(|&n| runs(n))).collect()
+}
+
+/// Lengths of runs around 16, 48 and 64 bytes, and twice 48.
+const LENGTHS: [usize; 15] = [15, 16, 17, 46, 47, 48, 49, 50, 62, 63, 64, 65, 95, 96, 97];
+
+/// A run of so many bytes in each place where blocks are searched: in strings up to
+/// each byte that can end a part, in a comment, and in whitespace; at the text's end
+/// and with more behind it.
+fn runs(n: usize) -> Vec<Vec<u8>> {
+    let (letters, spaces) = ("x".repeat(n), " ".repeat(n));
+    let texts = [
+        format!("\"{letters}\""),
+        format!("\"{letters}\" y"),
+        format!("\"{letters}"),
+        format!("\"{letters}\\t{letters}\\\""),
+        format!("\"\"\"{letters}\n{letters}\n\n\"{letters}\"\"\""),
+        format!("f\"{letters}{{a}}{letters}\""),
+        format!("\"{letters}{{{letters}\""),
+        format!("//{letters}"),
+        format!("//{letters}\n//{letters}\ny"),
+        format!("a{spaces}b\n{spaces}c"),
+        format!("a{spaces}"),
+    ];
+    texts.map(String::into_bytes).to_vec()
 }
 
 /// The listing's example, the traps and the marked pairs, in the paper's order.
@@ -173,6 +198,14 @@ const SURPRISES: &[&[u8]] = &[
     b"===>",
     b"<=>",
     b"a\n \n\tb",
+    b"a  b",
+    b"a \tb \nc",
+    b"a \x0c",
+    b"\"a b\" c d",
+    b"f\"a b{c d}e f\" g",
+    b"( a )",
+    b"\"\n\n\n\"",
+    b"f\"\"\"\n\n{\n\n}\n\n\"\"\"",
     b"a\r\n\r\nb",
     b"a\x0c\nb",
     b"\n\n",
