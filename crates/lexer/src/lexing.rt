@@ -19,7 +19,7 @@ use crate::Lexed;
 use crate::Mode;
 use crate::Ran;
 use crate::Step;
-use crate::list;
+use crate::lent;
 use crate::next;
 use source::Note;
 use source::Refusal;
@@ -149,7 +149,7 @@ fn stopped(doc: u32, fault: Fault, cur: Cursor, swords: &[u64]) -> Lexed
     let number = fault.number;
     let depth = cur.depth;
     if (number == 24) & (0 < depth) {
-        let opener = list::opener(swords, depth);
+        let opener = lent::opener(swords, depth);
         return result(
             Answer::Refused(Refusal {
                 number: number,
@@ -179,7 +179,7 @@ fn report_unclosed_delimiters(doc: u32, cur: Cursor, skinds: &[u8], swords: &[u6
         return result(Answer::Accepted, cur);
     }
     let number = token::unclosed_number(skinds[depth - 1]);
-    let opener = list::opener(swords, depth);
+    let opener = lent::opener(swords, depth);
     let at = Span::pack(doc, cur.at, cur.at);
     result(
         Answer::Refused(Refusal {
@@ -263,11 +263,11 @@ pub(crate) fn run(
     requires { ⌜ CanRun (now text) from stop (now skinds) (now swords) ⌝ }
     ensures { λ r. ⌜ Runs doc (now (text .entry)) from stop (now (kinds .entry)) (now (words .entry)) (now (skinds .entry)) (now (swords .entry)) r (now (kinds .exit)) (now (words .exit)) (now (skinds .exit)) (now (swords .exit)) ⌝ }
 {
-    let places = list::places(kinds, words);
-    let stack = list::places(skinds, swords);
+    let places = lent::places(kinds, words);
+    let stack = lent::places(skinds, swords);
     let table = token::table();
     let first = from.depth;
-    let mut mode = next::mode_of(list::top_state(skinds, first));
+    let mut mode = next::mode_of(lent::top_state(skinds, first));
     let mut cur = from;
     let mut kind = 0;
     while cur.at < stop {
@@ -293,8 +293,8 @@ pub(crate) fn run(
                     return no_room(cur, at, end, number);
                 }
                 let depth = cur.depth;
-                list::put(kinds, words, place, kind, span);
-                list::put(skinds, swords, depth, kind, span);
+                lent::put(kinds, words, place, kind, span);
+                lent::put(skinds, swords, depth, kind, span);
                 cur = past_opener(cur, kind, end);
                 mode = next::mode_of(token::state_of(kind));
             } else {
@@ -302,11 +302,11 @@ pub(crate) fn run(
                 if number != 0 {
                     return no_room(cur, at, end, number);
                 }
-                list::put(kinds, words, place, kind, span);
+                lent::put(kinds, words, place, kind, span);
                 if token::closes(kind) {
                     cur = past_closer(cur, kind, end);
                     let depth = cur.depth;
-                    mode = next::mode_of(list::top_state(skinds, depth));
+                    mode = next::mode_of(lent::top_state(skinds, depth));
                 } else {
                     cur = past_other(cur, kind, end);
                     if lone_space(text, end, stop, mode) {

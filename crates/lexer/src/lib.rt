@@ -5,14 +5,14 @@
 
 // The lexer splits a text into a sequence of tokens. One step, which the modules make up, and `lex` above it.
 mod ident;
+mod in_string;
+mod lent;
 mod lexing;
-mod list;
 mod next;
 mod number;
 mod punct;
 mod space;
 mod stepping;
-mod string;
 
 pub use ident::is_keyword;
 pub use lexing::lex;

@@ -16,11 +16,11 @@ use crate::Mode;
 use crate::Step;
 use crate::found;
 use crate::ident;
+use crate::in_string;
 use crate::number;
 use crate::punct;
 use crate::refused;
 use crate::space;
-use crate::string;
 use scan::Class;
 use token::Opened;
 use token::QuoteStyle;
@@ -140,5 +140,5 @@ pub(crate) fn next(table: &[u8; 256], text: &[u8], at: usize, mode: Mode) -> Ste
         let top = mode.top;
         return next_normal(table, text, at, top);
     }
-    string::lex_in_string(text, at, stop, mode.triple)
+    in_string::lex_in_string(text, at, stop, mode.triple)
 }

@@ -3,8 +3,8 @@ use mathlib.Core.Path.{refl}
 use borrow.Author.Needs.{needs}
 use borrow.Author.Tests.{eq-eqb, ne-eqb}
 use Rattle.lexer.proofs.Quoted.{escaped-at}
-use Rattle.lexer.proofs.string.lex_in_escape.Statement.{statement}
-use Rattle.lexer.proofs.string.lex_in_escape.Tie as tie
+use Rattle.lexer.proofs.in_string.lex_in_escape.Statement.{statement}
+use Rattle.lexer.proofs.in_string.lex_in_escape.Tie as tie
 
 returns : tie.Need-returns
 returns c = rw (c .single-escape .ensures, escaped-at _ _ (c .before .before .before .before .pre .1), ← (c .before .before .byte-at .ensures), ne-eqb _ _ (c .before .if1 .taken)) refl

@@ -13,8 +13,8 @@ use Rattle.lexer.specs.Outcome.{lexemeTo}
 use Rattle.lexer.specs.Quotes.{Quoted}
 use Rattle.lexer.proofs.Quoted.{quote-le, quoted-escape, quoted-hole, quoted-inner, quoted-line, string-close, string-quote}
 use borrow.Author.Needs.{needs}
-use Rattle.lexer.proofs.string.lex_in_string.Statement.{statement}
-use Rattle.lexer.proofs.string.lex_in_string.Tie as tie
+use Rattle.lexer.proofs.in_string.lex_in_string.Statement.{statement}
+use Rattle.lexer.proofs.in_string.lex_in_string.Tie as tie
 
 shared-slice-read-a : tie.Need-shared-slice-read-a
 shared-slice-read-a c = search needs

@@ -5,8 +5,8 @@ use borrow.Author.Needs.{needs}
 use Rattle.token.specs.Codes.{codeOf}
 use Rattle.scan.specs.Classes.{passes}
 use Rattle.lexer.proofs.Quoted.{four-digits, four-few}
-use Rattle.lexer.proofs.string.unicode_four.Statement.{statement}
-use Rattle.lexer.proofs.string.unicode_four.Tie as tie
+use Rattle.lexer.proofs.in_string.unicode_four.Statement.{statement}
+use Rattle.lexer.proofs.in_string.unicode_four.Tie as tie
 
 returns : tie.Need-returns
 unfolding codeOf passes

@@ -2,8 +2,8 @@
 use borrow.Author.Tests.{ne-eqb}
 use borrow.Author.Needs.{needs}
 use Rattle.token.specs.Codes.{stateMeant}
-use Rattle.lexer.proofs.list.top_state.Statement.{statement}
-use Rattle.lexer.proofs.list.top_state.Tie as tie
+use Rattle.lexer.proofs.lent.top_state.Statement.{statement}
+use Rattle.lexer.proofs.lent.top_state.Tie as tie
 
 returns : tie.Need-returns
 unfolding stateMeant

@@ -12,8 +12,8 @@ use Rattle.token.specs.Codes.{codeOf}
 use Rattle.scan.specs.Classes.{passes}
 use Rattle.scan.specs.declared.Class.the-variants.{Hex}
 use Rattle.lexer.proofs.Quoted.{delim-at}
-use Rattle.lexer.proofs.string.unicode_delim.Statement.{statement}
-use Rattle.lexer.proofs.string.unicode_delim.Tie as tie
+use Rattle.lexer.proofs.in_string.unicode_delim.Statement.{statement}
+use Rattle.lexer.proofs.in_string.unicode_delim.Tie as tie
 
 add-found : tie.Need-add-found
 add-found c =

@@ -6,8 +6,8 @@ use borrow.Author.Needs.{needs}
 use Rattle.token.specs.Codes.{codeOf}
 use Rattle.scan.specs.Classes.{passes}
 use Rattle.lexer.proofs.Quoted.{single-end, single-line, single-over, single-one}
-use Rattle.lexer.proofs.string.single_escape.Statement.{statement}
-use Rattle.lexer.proofs.string.single_escape.Tie as tie
+use Rattle.lexer.proofs.in_string.single_escape.Statement.{statement}
+use Rattle.lexer.proofs.in_string.single_escape.Tie as tie
 
 returns : tie.Need-returns
 returns c = c .refused .ensures ∙ single-end _ _ (omega arith) (omega arith) (c .before .before .before .pre .1)

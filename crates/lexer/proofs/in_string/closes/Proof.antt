@@ -3,8 +3,8 @@ use Prim.Native.Char.{code}
 use mathlib.Core.Path.{refl}
 use borrow.Author.Tests.{eq-eqb, ne-eqb}
 use borrow.Author.Needs.{needs}
-use Rattle.lexer.proofs.string.closes.Statement.{statement}
-use Rattle.lexer.proofs.string.closes.Tie as tie
+use Rattle.lexer.proofs.in_string.closes.Statement.{statement}
+use Rattle.lexer.proofs.in_string.closes.Tie as tie
 
 pub closes-spec : {M : Type 1} → statement M
 closes-spec =
