@@ -220,7 +220,7 @@ fn no_room(cur: Cursor, at: usize, end: usize, number: u8) -> Ran
     }
 }
 
-// Whether the step at `at`, which comes after a lexeme and before `stop`, is a Space of one byte. Most lexemes have one behind them, so that a whole turn of the loop is saved.
+// Whether the step at `at`, which comes after a lexeme and before `stop`, is a Space of one byte. Many lexemes have one behind them, and a yes saves a turn of the loop; a no says nothing.
 fn lone_space(text: &[u8], at: usize, stop: usize, mode: Mode) -> bool
     requires { ⌜ (stop ≤ length (now text)) × (mode ≡ modeOf (mode .top)) ⌝ }
     ensures { λ r. ⌜ LoneIf r (now (text .entry)) at stop (mode .top) ⌝ }

@@ -168,7 +168,7 @@ fn ends_inner(b: u8, stop: u8) -> bool
     (b == b'\\') | (b == b'"') | (b == b'\n') | (b == stop)
 }
 
-// Where in 48 bytes the first one stands that ends an inner part, 48 where none does: a loop without an exit, like `line_first`. Most inner parts are shorter than that.
+// Where in 48 bytes the first one stands that ends an inner part, 48 where none does: a loop without an exit, like `line_first`. The size was chosen by measuring.
 fn inner_first(text: &[u8], at: usize, stop: u8) -> usize
     requires { ⌜ at + 48 ≤ length (now text) ⌝ }
     ensures { λ r. ⌜ Stops (isInnerFor stop) (now (text .entry)) at (at + 48) (at + r) ⌝ }
