@@ -1,15 +1,19 @@
 // The parts list: from an opener's place to its closer.
 ghost use mathlib.Core.Path.{_≡_};
 ghost use Prim.Native.Nat.{_+_, _<_, _^_};
-ghost use Rattle.rules.specs.Kinds.{isQuoteOpen};
-ghost use mathlib.Core.Bool.{false};
+ghost use lib.Dec.{eqb};
+ghost use Rattle.rules.specs.Kinds.{QuoteClose, HoleOpen, isQuoteOpen};
+ghost use mathlib.Core.Bool.{false, cond, _||_};
+ghost use Rattle.rules.specs.Refusals.{NoString};
 ghost use Rattle.rules.specs.Spans.{nowhere, isBad};
-ghost use Rattle.rules.specs.Parts.{atDepth1, holeEnds, deeper as deeperRule, turn, refuses, passes, yields, partsFrom, lexemesFrom, ListsParts};
+ghost use Rattle.rules.specs.Parts.{atDepth1, holeEnds, deeper as deeperRule, turn, closes, refuses, passes, yields, partsFrom, lexemesFrom, ListsParts};
 ghost use Rattle.source.specs.Meaning.{spanMeant};
+ghost use Rattle.token.specs.Codes.{stateCode};
 ghost use Rattle.list.specs.Entries.{entryMeant};
 ghost use Rattle.cst.specs.Meaning.{partMeant, closerMeant};
 ghost use Rattle.cst.specs.Search.{moveMeant, turnMeant, openMeant, CanTurn, openerTurn, orFull, openAfter, partsAfter, answerAt, HasRoom, Wrote, Before, Searched};
 use crate::Closer;
+use crate::Known;
 use crate::Move;
 use crate::Open;
 use crate::Parted;
@@ -19,7 +23,8 @@ use crate::Turn;
 use list::Entry;
 use source::Span;
 use source::Spanned;
-use token::Escape;
+use token::Opened;
+use token::State;
 
 fn refuses_with(number: u8, at: Span) -> Turn
     ensures { λ r. ⌜ turnMeant r ≡ refuses number (spanMeant at) ⌝ }
@@ -42,10 +47,52 @@ fn yields_part(part: StringPart) -> Turn
     Turn::Goes(Move::Yields(part))
 }
 
+// "QuoteOpen": what it opens is a string.
+fn opens_string(state: State) -> bool
+    ensures { λ r. ⌜ r ≡ isQuoteOpen (stateCode state) ⌝ }
+{
+    match state {
+        State::String(_) => true,
+        State::Format(_) => true,
+        State::Hole => false,
+        State::Brace => false,
+        State::Paren => false,
+        State::Bracket => false,
+    }
+}
+
 fn is_quote_open(kind: u8) -> bool
     ensures { λ r. ⌜ r ≡ isQuoteOpen kind ⌝ }
 {
-    (5 <= kind) & (kind <= 8)
+    let opened = token::state_of(kind);
+    let Opened::State(state) = opened else {
+        return false;
+    };
+    opens_string(state)
+}
+
+// "Openers (QuoteOpen, HoleOpen)": the brackets of an expression are none.
+fn counts(state: State) -> bool
+    ensures { λ r. ⌜ r ≡ (isQuoteOpen (stateCode state) || eqb (stateCode state) HoleOpen) ⌝ }
+{
+    match state {
+        State::String(_) => true,
+        State::Format(_) => true,
+        State::Hole => true,
+        State::Brace => false,
+        State::Paren => false,
+        State::Bracket => false,
+    }
+}
+
+fn is_opener(kind: u8) -> bool
+    ensures { λ r. ⌜ r ≡ (isQuoteOpen kind || eqb kind HoleOpen) ⌝ }
+{
+    let opened = token::state_of(kind);
+    let Opened::State(state) = opened else {
+        return false;
+    };
+    counts(state)
 }
 
 // The closer of a hole: "a hole's span is the union of its two ends, and the 3 .. of that part comes at its closer".
@@ -60,21 +107,35 @@ fn hole_ends(hole: Span, at: Span) -> Turn
     yields_part(StringPart::Hole(span))
 }
 
-// "At depth 1, StringInner and Escape are parts; a hole is one part ..; a QuoteClose met at depth 1 ends; any other kind at depth 1 .. gives 50"
+// "At depth 1, StringInner and Escape are parts; a hole is one part .."
+fn part_at_depth1(part: StringPart) -> Turn
+    ensures { λ r. ⌜ turnMeant r ≡ atDepth1 (partMeant part) ⌝ }
+{
+    match part {
+        StringPart::String(_) => yields_part(part),
+        StringPart::Escape(_, _) => yields_part(part),
+        StringPart::Hole(at) => passes_with(2, at),
+    }
+}
+
+// ".. a QuoteClose met at depth 1 ends; any other kind at depth 1 .. gives 50"
+fn no_part_at_depth1(entry: Entry) -> Turn
+    ensures { λ r. ⌜ turnMeant r ≡ cond (eqb (entryMeant entry .kind) QuoteClose) closes (refuses NoString (entryMeant entry .at)) ⌝ }
+{
+    if entry.kind == 9 {
+        return Turn::Stops(Stop::Closes);
+    }
+    refuses_with(50, entry.at)
+}
+
 fn at_depth1(entry: Entry) -> Turn
     ensures { λ r. ⌜ turnMeant r ≡ atDepth1 (entryMeant entry) ⌝ }
 {
-    let at = entry.at;
-    let kind = entry.kind;
-    match kind {
-        9 => Turn::Stops(Stop::Closes),
-        10 => yields_part(StringPart::String(at)),
-        11 => yields_part(StringPart::Escape(at, Escape::Single)),
-        12 => yields_part(StringPart::Escape(at, Escape::Unicode4)),
-        13 => yields_part(StringPart::Escape(at, Escape::UnicodeDelim)),
-        14 => passes_with(2, at),
-        _ => refuses_with(50, at),
-    }
+    let known = crate::part(entry);
+    let Known::Part(part) = known else {
+        return no_part_at_depth1(entry);
+    };
+    part_at_depth1(part)
 }
 
 // "Openers (QuoteOpen, HoleOpen) add one, closers take one"; "Deeper, other kinds are passed over"
@@ -84,7 +145,7 @@ fn deeper(opened: Open, entry: Entry) -> Turn
 {
     let kind = entry.kind;
     let depth = opened.depth;
-    if is_quote_open(kind) | (kind == 14) {
+    if is_opener(kind) {
         return passes_with(depth + 1, opened.hole);
     }
     if (kind != 9) & (kind != 15) {

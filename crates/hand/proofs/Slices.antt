@@ -1,16 +1,27 @@
 -- A part of a slice: what the check says of it, and its bytes.
 use Prim.Native.Nat.{ℕ, _-_, _≤_}
 use mathlib.Core.Path.{_≡_, refl, sym}
-use mathlib.Core.Bool.{Bool, true, false, _||_, false≢true}
+use mathlib.Core.Bool.{Bool, true, false, cond, _||_, false≢true}
 use mathlib.Core.List.{List, []}
 use borrow.Author.Tests.{leb-true, ltb-false}
 use lib.Dec.{leb, ltb}
 use lib.ListN.{length, take, drop}
-use Rattle.rules.specs.Spans.{span, limit, Refusal, Answer, given, refused, isBad, Verdict, accepted, resolved}
+use Rattle.rules.specs.Refusals.{WrongForm}
+use Rattle.rules.specs.Spans.{Span, span, limit, Refusal, Answer, given, refused, refuse, isBad, Verdict, accepted, newSpan, resolved}
 use Rattle.rules.specs.Escapes.{verdictOn}
 use Rattle.rules.specs.Value.{orEmpty}
 use Rattle.rules.proofs.Text.{decide}
 use Rattle.hand.specs.Meaning.{partCheck}
+
+-- what is said of a span that was made, or why none was
+abbrev pub onMade : Answer Span → (Span → Verdict) → Verdict
+onMade (given s) f = f s
+onMade (refused r) f = refused r
+
+-- the check of a part makes its span, and holds that against the slice
+pub check-made : (a e n : ℕ) → partCheck a e n ≡ onMade (newSpan 0 a e) (λ s. cond (leb e n) accepted (refuse WrongForm s))
+unfolding partCheck newSpan
+check-made a e n = decide (isBad (span 0 a e)) (λ b. rw b) (λ b. rw b)
 
 -- the check of a part is that of its span in the slice
 pub check-slice : (s : List ℕ) (a e : ℕ) → verdictOn (resolved s (span 0 a e)) ≡ partCheck a e (length s)

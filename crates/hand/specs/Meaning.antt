@@ -1,5 +1,5 @@
 -- What the check says.
-use Prim.Native.Nat.{ℕ, _+_}
+use Prim.Native.Nat.{ℕ}
 use mathlib.Core.Bool.{cond}
 use mathlib.Core.List.{List}
 use lib.Dec.{leb}
@@ -7,7 +7,7 @@ use denote.Ref.{RefT, ptr, now}
 use Rattle.rules.specs.Refusals.{WrongForm}
 use Rattle.rules.specs.Spans.{span, unlessBad, refuse, Verdict as VerdictRule, accepted, given, refused}
 use Rattle.rules.specs.Value.{Where as WhereRule, inText, inOutput, handCheck}
-use Rattle.source.specs.Meaning.{refusalMeant}
+use Rattle.source.specs.Meaning.{refusalMeant, moved}
 use Rattle.hand.specs.declared.Checked.{Checked}
 use Rattle.hand.specs.declared.Checked.the-variants.{Inside, Refused}
 
@@ -18,10 +18,6 @@ checkedMeant (Refused r) = refused (refusalMeant r)
 -- "a check gives 3, then 40 for a part outside its slice", which has so many bytes
 unfoldable pub partCheck : (start end bytes : ℕ) → VerdictRule
 partCheck a e n = unlessBad (span 0 a e) (cond (leb e n) accepted (refuse WrongForm (span 0 a e)))
-
--- an address, a block of memory and an offset in it, moved on by so many bytes
-abbrev pub moved : (bytes : ℕ) → ℕ × ℕ → ℕ × ℕ
-moved n p = (p .0, n + p .1)
 
 -- where a part of slices at these addresses stands: at its start in its own slice; at the text's start where the check refuses it
 abbrev pub standsAt : (text out : ℕ × ℕ) → VerdictRule → WhereRule → ℕ × ℕ

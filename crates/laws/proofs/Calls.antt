@@ -7,7 +7,7 @@ use lib.ListN.{length, take, length-map}
 use Rattle.rules.specs.Spans.{Answer, given, refused, Verdict}
 use Rattle.rules.specs.Lexing.{accepts, traceIn, Lexeme, Lexed, lexedOf, placesOf, lexemesIn, kindsWith, wordsWith, listing, lexing, Lexes}
 use Rattle.rules.specs.Escapes.{verdictOn}
-use Rattle.rules.specs.Value.{Where, handedPart, orEmpty, Values, HandsBack}
+use Rattle.rules.specs.Value.{Where, handedPart, orEmpty, Values, ChecksPart, HandsBack}
 use Rattle.rules.specs.Tidy.{respaced}
 use Rattle.rules.proofs.Trace.{listed-kept}
 use Rattle.rules.proofs.Listed.{lexemes-with}
@@ -75,13 +75,13 @@ checked-number : (a : Answer (List ℕ)) → numberOf (verdictOn a) ≡ numberOf
 checked-number (given w) = refl
 checked-number (refused r) = refl
 
--- the number that handing back a call's answer gives
-hands-number : {text out₁ : List ℕ} {p : Where} {v : Verdict} {w : List ℕ} {out : List ℕ} {a : Answer Where} → HandsBack text out₁ p v w → given p ≡ a → out₁ ≡ out → numberOf v ≡ numberOf (handedBack text out a)
-hands-number {text} {out₁} {p} h e o = rw (h .checked, ← e, ← o) (checked-number (handedPart text out₁ p))
+-- the number that the check of a call's answer gives
+hands-number : (text out₁ : List ℕ) (p : Where) {v : Verdict} {out : List ℕ} {a : Answer Where} → ChecksPart text out₁ p v → given p ≡ a → out₁ ≡ out → numberOf v ≡ numberOf (handedBack text out a)
+hands-number text out₁ p k e o = rw (k, ← e, ← o) (checked-number (handedPart text out₁ p))
 
--- and the bytes
-hands-bytes : {text out₁ : List ℕ} {p : Where} {v : Verdict} {w : List ℕ} {out : List ℕ} {a : Answer Where} → HandsBack text out₁ p v w → given p ≡ a → out₁ ≡ out → w ≡ orEmpty (handedBack text out a)
-hands-bytes h e o = rw (h .returned, ← e, ← o)
+-- and the bytes that are handed back
+hands-bytes : (text out₁ : List ℕ) (p : Where) {w : List ℕ} {out : List ℕ} {a : Answer Where} → HandsBack text out₁ p w → given p ≡ a → out₁ ≡ out → w ≡ orEmpty (handedBack text out a)
+hands-bytes text out₁ p h e o = rw (h, ← e, ← o)
 
 -- calls on two accepted texts that are alike give the same
 pub same-calls : (text text₂ : List ℕ) → accepts text ≡ true → accepts text₂ ≡ true → Alike text text₂ → SameCalls text text₂
@@ -116,12 +116,12 @@ same-calls text text₂ a a₂ e = record {
         kinds = u₂ .kinds ∙ (same .kinds ∙ sym (u .kinds));
         output = u₂ .output ∙ (same .output ∙ sym (u .output));
       };
-  handing = λ doc doc₂ ks ws sk sw r r₂ ks₁ ws₁ sk₁ sw₁ ks₂ ws₂ sk₂ sw₂ l l₂ place pks pws out at p p₂ n n₂ pks₁ pws₁ out₁ pks₂ pws₂ out₂ v v₂ c c₂ w w₂ h h₂.
+  handing = λ doc doc₂ ks ws sk sw r r₂ ks₁ ws₁ sk₁ sw₁ ks₂ ws₂ sk₂ sw₂ l l₂ place pks pws out at p p₂ n n₂ pks₁ pws₁ out₁ pks₂ pws₂ out₂ v v₂ c c₂ k k₂ w w₂ h h₂.
       let same = e .values doc doc₂ (placesOf sk sw) ks ws place pks pws out at in
       let u = value-on l v in
       let u₂ = value-on l₂ v₂ in (
-        hands-number h₂ (u₂ .answered) (u₂ .output) ∙ (same .handedNumber ∙ sym (hands-number h (u .answered) (u .output))),
-        hands-bytes h₂ (u₂ .answered) (u₂ .output) ∙ (same .handedBytes ∙ sym (hands-bytes h (u .answered) (u .output))),
+        hands-number text₂ out₂ p₂ k₂ (u₂ .answered) (u₂ .output) ∙ (same .handedNumber ∙ sym (hands-number text out₁ p k (u .answered) (u .output))),
+        hands-bytes text₂ out₂ p₂ h₂ (u₂ .answered) (u₂ .output) ∙ (same .handedBytes ∙ sym (hands-bytes text out₁ p h (u .answered) (u .output))),
       );
 }
 

@@ -5,7 +5,7 @@ use mathlib.Core.Bool.{Bool, true, false, cond, not, _&&_}
 use mathlib.Core.List.{List, [], _∷_, _++_, map, reverse, reverse-append}
 use mathlib.Core.Option.{Option, none, some}
 use native.Mathlib.Omega.{arith}
-use borrow.Author.Tests.{ltb-true, ltb-false, lt-ltb, le-ltb, leb-false, ne-eqb}
+use borrow.Author.Tests.{ltb-true, ltb-false, lt-ltb, le-ltb, le-leb, leb-false, ne-eqb}
 use lib.Dec.{leb, ltb, eqb}
 use lib.ListN.{length, take, drop, set, getD, getElem?, length-append, length-drop, length-set}
 use lib.Seq.{drop-drop, take-suc, length-take-le}
@@ -15,10 +15,11 @@ use Rattle.rules.specs.Spans.{Span, span, low, high, spanOf, limit, Refusal, re
 use Rattle.rules.specs.Kinds.{isSpace, isOpener, isCloser}
 use Rattle.rules.specs.Step.{Step, found, stop, step}
 use Rattle.rules.specs.Lexing.{Piece, piece, End, stopped, Trace, ends, after, openAfter, codesAfter, innermost, atEnd, traceFrom, trace, depthAfter, roomAfter, traceIn, lexemesOf, joined, Lexeme, lexeme, placed, openOf, noteOf, verdictOf, lexedOf, placesOf, lexemesIn}
-use Rattle.rules.specs.Walker.{Walker, opening, Walked, openIn, codesOf, isAstray, kindsPut, wordsPut, stays, goes, walkedEnd, walkedStep, walkedAt, walkedFresh, walking}
+use Rattle.rules.specs.Walker.{Kept, nothing, tooLong, notUtf8, keptBad, keptRefusal, Walker, opening, Walked, openIn, codesOf, isAstray, kindsPut, wordsPut, stays, goes, walkedEnd, walkedStep, walkedAt, walkedFresh, walking}
 use Rattle.rules.proofs.Text.{decide}
 use Rattle.rules.proofs.Spans.{span-of-words}
 use Rattle.rules.proofs.Bounds.{found-inside}
+use Rattle.rules.proofs.Rfc3629.{first-bad}
 use Rattle.rules.proofs.Trace.{open-codes, open-length, trace-found, trace-stopped, trace-ended, trace-long, trace-bad, trace-good, within, within-ends, within-after, within-full-stack}
 use Rattle.laws.specs.Demand3.{deepestIn}
 use Rattle.laws.specs.Walking.{stepFrom, stepOf, ending, WalksAs, WalksText}
@@ -74,7 +75,7 @@ Openers (o ∷ os) = (isOpener (o .kind) ≡ true) × Openers os
 -- Under way
 -- a walker that met no refusal at its opening, at a position and where these are open, innermost first
 abbrev here : (doc at : ℕ) → List Lexeme → Walker
-here doc at os = record { doc = doc; at = at; depth = length os; refusal = none }
+here doc at os = record { doc = doc; at = at; depth = length os; kept = nothing }
 
 -- its stack, of so many places, holds what is open
 record Under (text : List ℕ) (at : ℕ) (os : List Lexeme) (stack : ℕ) (ks ws : List ℕ) : Type 0 where
@@ -349,7 +350,7 @@ walks-later i h doc text at os stack room ks ws (moves p more stands traced u lo
     let deeper : depthAfter (length os) (p .kind) ≡ length os₁ = sym (open-length (λ x. x .kind) os l) in
     let ahead₁ : Trace = within stack (length os₁) more (ahead text next os₁) in
     ap (λ (r : Walked). stepFrom text (r .walker) (r .kinds) (r .words) i .answer) stands
-    ∙ (ap (λ (d : ℕ). stepFrom text (record { doc = doc; at = next; depth = d; refusal = none }) ks₁ ws₁ i .answer) deeper
+    ∙ (ap (λ (d : ℕ). stepFrom text (record { doc = doc; at = next; depth = d; kept = nothing }) ks₁ ws₁ i .answer) deeper
     ∙ (h doc text next os₁ stack more ks₁ ws₁ u long
     ∙ sym (ap (λ (t : Trace). due doc at os t (suc i)) traced ∙ due-later doc at os p ahead₁ i)))
 
@@ -359,22 +360,22 @@ walks zero doc text at os stack room ks ws u long = walks-first doc text at os s
 walks (suc i) doc text at os stack room ks ws u long = walks-later i (walks i) doc text at os stack room ks ws (beside doc text at os stack room ks ws u long)
 
 -- From the opening
--- a walker that kept a refusal at its opening
-abbrev keeping : ℕ → Refusal → Walker
-keeping doc r = record { doc = doc; at = 0; depth = 0; refusal = some r }
+-- a walker as it is opened, with what it keeps
+abbrev keeping : ℕ → Kept → Walker
+keeping doc k = record { doc = doc; at = 0; depth = 0; kept = k }
 
--- gives it at every step
-keeping-stays : (doc : ℕ) (text ks ws : List ℕ) (r : Refusal) → walking text (keeping doc r) ks ws ≡ stays text (keeping doc r) ks ws (refused r)
+-- a refusal that is kept is given at every step
+keeping-stays : (doc : ℕ) (text ks ws : List ℕ) (k : Kept) (r : Refusal) → keptRefusal doc k ≡ some r → walking text (keeping doc k) ks ws ≡ stays text (keeping doc k) ks ws (refused r)
 unfolding walking
-keeping-stays doc text ks ws r = refl
+keeping-stays doc text ks ws k r e = rw e
 
 -- 2 is kept
-opening-long : (doc : ℕ) (text : List ℕ) → limit < length text → opening doc text ≡ keeping doc (refusal TooLong (span doc 0 0))
+opening-long : (doc : ℕ) (text : List ℕ) → limit < length text → opening doc text ≡ keeping doc tooLong
 unfolding opening
 opening-long doc text h = rw (lt-ltb limit (length text) h)
 
 -- so is 1
-opening-bad : (doc : ℕ) (text : List ℕ) (j : ℕ) → length text ≤ limit → firstBad text ≡ some j → opening doc text ≡ keeping doc (refusal NotUtf8 (span doc j j))
+opening-bad : (doc : ℕ) (text : List ℕ) (j : ℕ) → length text ≤ limit → firstBad text ≡ some j → opening doc text ≡ keeping doc (notUtf8 j)
 unfolding opening
 opening-bad doc text j h e = rw (le-ltb limit (length text) h, e)
 
@@ -388,13 +389,13 @@ abbrev GoesBy : (doc : ℕ) (text ks ws : List ℕ) → Trace → Type 0
 GoesBy doc text ks ws t = (i : ℕ) → stepOf doc text ks ws i .answer ≡ due doc 0 [] t i
 
 -- it does where a refusal was kept
-goes-refused : (doc : ℕ) (text ks ws : List ℕ) (places : ℕ) (e : End) (r : Refusal) → opening doc text ≡ keeping doc r → trace text ≡ ends e → ending (verdictOf doc 0 [] e) ≡ refused r →
+goes-refused : (doc : ℕ) (text ks ws : List ℕ) (places : ℕ) (e : End) (k : Kept) (r : Refusal) → opening doc text ≡ keeping doc k → keptRefusal doc k ≡ some r → trace text ≡ ends e → ending (verdictOf doc 0 [] e) ≡ refused r →
     GoesBy doc text ks ws (traceIn places (placesOf ks ws) text)
 unfolding traceIn
-goes-refused doc text ks ws places e r opens traced same i =
+goes-refused doc text ks ws places e k r opens kept traced same i =
     let traced-in : within (placesOf ks ws) 0 places (trace text) ≡ ends e = ap (λ (t : Trace). within (placesOf ks ws) 0 places t) traced ∙ within-ends (placesOf ks ws) 0 places e in
     ap (λ (w : Walker). stepFrom text w ks ws i .answer) opens
-    ∙ (stay-answer text (keeping doc r) ks ws (refused r) (keeping-stays doc text ks ws r) i
+    ∙ (stay-answer text (keeping doc k) ks ws (refused r) (keeping-stays doc text ks ws k r kept) i
     ∙ sym (ap (λ (t : Trace). due doc 0 [] t i) traced-in ∙ (due-ends doc 0 [] e i ∙ same)))
 
 -- and where none was
@@ -429,12 +430,15 @@ goes-by doc text ks ws places long =
     decide (ltb limit (length text))
     (λ e.
     let h : limit < length text = ltb-true limit (length text) e in
-    goes-refused doc text ks ws places (stopped TooLong 0 0) (refusal TooLong (span doc 0 0)) (opening-long doc text h) (trace-long text h) (long-answer doc))
+    goes-refused doc text ks ws places (stopped TooLong 0 0) tooLong (refusal TooLong (span doc 0 0)) (opening-long doc text h) refl (trace-long text h) (long-answer doc))
     (λ e. checked (ltb-false limit (length text) e) (firstBad text) refl)
   where
+    kept-bad : (j : ℕ) → length text ≤ limit → firstBad text ≡ some j → keptRefusal doc (notUtf8 j) ≡ some (refusal NotUtf8 (span doc j j))
+    kept-bad j h e = unfold keptBad in rw (le-leb j limit (omega (arith, (first-bad text j .0 e) .inside)))
+
     checked : length text ≤ limit → (b : Option ℕ) → firstBad text ≡ b → GoesBy doc text ks ws (traceIn places (placesOf ks ws) text)
     checked h (some j) e =
-        goes-refused doc text ks ws places (stopped NotUtf8 j 0) (refusal NotUtf8 (span doc j j)) (opening-bad doc text j h e) (trace-bad text j h e) (bad-answer doc j)
+        goes-refused doc text ks ws places (stopped NotUtf8 j 0) (notUtf8 j) (refusal NotUtf8 (span doc j j)) (opening-bad doc text j h e) (kept-bad j h e) (trace-bad text j h e) (bad-answer doc j)
     checked h none e = goes-good doc text ks ws places h e long
 
 -- Positions
@@ -447,7 +451,7 @@ endIn at (refused r) = at
 -- every step leaves it there
 walked-to : (text : List ℕ) (w : Walker) (ks ws : List ℕ) → walking text w ks ws .walker .at ≡ endIn (w .at) (walking text w ks ws .answer)
 unfolding walking
-walked-to text w ks ws = fresh (w .refusal)
+walked-to text w ks ws = fresh (keptRefusal (w .doc) (w .kept))
   where
     To : Walked → Type 0
     To r = r .walker .at ≡ endIn (w .at) (r .answer)

@@ -1,4 +1,4 @@
--- Demand 3 at the calls: over the relations that the contracts of `lex`, the tidy writer, the value call and handing back name (`Lexes`, `Tidies`, `Values`, `HandsBack`). Any results that meet them are spoken of, so nobody has to put contract and law together.
+-- Demand 3 at the calls: over the relations that the contracts of `lex`, the tidy writer, the value call and handing back name (`Lexes`, `Tidies`, `Values`, and of handing back `ChecksPart` and `HandsBack`). Any results that meet them are spoken of, so nobody has to put contract and law together.
 use Prim.Native.Nat.{ℕ, _+_, _*_, _≤_}
 use mathlib.Core.Path.{_≡_}
 use mathlib.Core.Bool.{false}
@@ -6,7 +6,7 @@ use mathlib.Core.List.{List, map}
 use lib.ListN.{length, take}
 use Rattle.rules.specs.Spans.{limit, bytesAt, Answer, given, Verdict, accepted}
 use Rattle.rules.specs.Lexing.{traceIn, spacesOf, joined, Lexed, placesOf, lexemesIn, listing, Lexes}
-use Rattle.rules.specs.Value.{Where, Values, HandsBack}
+use Rattle.rules.specs.Value.{Where, Values, ChecksPart, HandsBack}
 use Rattle.rules.specs.Tidy.{respaced, Tidies}
 use Rattle.laws.specs.Demand3.{numberOf, isMemoryRefusal, isShort, heldBy}
 
@@ -70,7 +70,8 @@ pub record SameCalls (text text₂ : List ℕ) : Type 0 where
       Lexes doc text ks ws sk sw r ks₁ ws₁ sk₁ sw₁ → Lexes doc₂ text₂ ks ws sk sw r₂ ks₂ ws₂ sk₂ sw₂ →
       (place : ℕ) (pks pws out : List ℕ) (at : ℕ) (p p₂ : Where) (n n₂ : ℕ) (pks₁ pws₁ out₁ pks₂ pws₂ out₂ : List ℕ) →
       Values text ks₁ ws₁ (r .lexemes) place pks pws out at (given p) n pks₁ pws₁ out₁ → Values text₂ ks₂ ws₂ (r₂ .lexemes) place pks pws out at (given p₂) n₂ pks₂ pws₂ out₂ →
-      (v v₂ : Verdict) (w w₂ : List ℕ) → HandsBack text out₁ p v w → HandsBack text₂ out₂ p₂ v₂ w₂ →
+      (v v₂ : Verdict) → ChecksPart text out₁ p v → ChecksPart text₂ out₂ p₂ v₂ →
+      (w w₂ : List ℕ) → HandsBack text out₁ p w → HandsBack text₂ out₂ p₂ w₂ →
       (numberOf v₂ ≡ numberOf v) × (w₂ ≡ w)
 
 -- every text that the rules accept

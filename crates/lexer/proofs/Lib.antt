@@ -12,3 +12,6 @@ pub mod Standing
 pub mod Loop
 pub mod Running
 pub mod Lone
+-- a single step
+pub mod Openers
+pub mod Walking

@@ -19,19 +19,19 @@ use Rattle.rules.proofs.Bounds.{found-inside, stop-inside, stop-number}
 use Rattle.rules.proofs.Rfc3629.{first-bad}
 use Rattle.rules.proofs.Text.{decide}
 use Rattle.rules.proofs.Trace.{trace-long, trace-bad, within-ends}
-use Rattle.token.specs.Codes.{stateMeant, ifOpener}
+use Rattle.token.specs.Codes.{codeOf, stateMeant, ifOpener}
 use Rattle.token.specs.declared.Opened.{Opened}
 use Rattle.token.specs.declared.Opened.the-variants.{State as OpenedState, NoOpener}
 use Rattle.lexer.specs.declared.Cursor.{Cursor}
 use Rattle.lexer.specs.declared.Fault.{Fault}
 use Rattle.lexer.specs.declared.Lexed.{Lexed}
-use Rattle.lexer.specs.declared.Lexeme.{Lexeme as LexemeFound}
+use Rattle.lexer.specs.declared.Match.{Match}
 use Rattle.lexer.specs.declared.Step.{Step}
 use Rattle.lexer.specs.declared.Step.the-variants.{Found, Refused}
 use Rattle.lexer.specs.Cursor.{start, advanceOf, fullOf}
 use Rattle.lexer.specs.Memory.{topOf}
-use Rattle.lexer.specs.Outcome.{lexemeTo, refusedAt, outcome, stepMeant, innermostOf}
-use Rattle.lexer.specs.Results.{lexedMeant, countedAt, noteAt, refusedWith, verdictAt, faultOf, CanReport, CanStop, CanFinish}
+use Rattle.lexer.specs.Outcome.{lexemeTo, refusedAt, miscoded, outcome, stepMeant, innermostOf}
+use Rattle.lexer.specs.Results.{lexedMeant, countedAt, noteAt, refusedWith, verdictAt, CanReport, CanStop, CanFinish}
 use Rattle.lexer.proofs.Standing.{Standing, opened, codes, kindsAfter, wordsAfter, stackKindsAfter, stackWordsAfter, bounds, standing-on, top-code, top-none, top-opener, note-some, note-none, note-other, answer, listed, standing-end, standing-stop, standing-full}
 
 -- what an outcome says of the step
@@ -50,13 +50,18 @@ pub outcome-stop : (at a b e : ℕ) (r : StepRule) → refusedAt a b e ≡ outco
 outcome-stop at a b e (found j n) q = let z : _≡_ {A = ℕ} 0 1 = cc in absurd (omega arith)
 outcome-stop at a b e (stop x f m) q = record { from = f; size = m; is = cc; starts = cc; ends = cc }
 
--- the fault of a step that was refused
-pub fault-means : (answer : Step) (f g : Fault) (at : ℕ) → answer ≡ Refused g → f ≡ faultOf answer at → refusedAt (f .number) (f .start) (f .end) ≡ stepMeant answer
-unfolding faultOf
-fault-means answer f g at a e = rw (e, a)
+-- a step that was refused, and a lexeme that was found with its token's code
+pub fault-means : (answer : Step) (f : Fault) → answer ≡ Refused f → refusedAt (f .number) (f .start) (f .end) ≡ stepMeant answer
+fault-means answer f a = rw a
 
-pub found-means : (answer : Step) (l : LexemeFound) → answer ≡ Found l → lexemeTo (l .kind) (l .end) ≡ stepMeant answer
-found-means answer l a = rw a
+pub found-means : (at : ℕ) (r : StepRule) (answer : Step) (m : Match) → answer ≡ Found m → stepMeant answer ≡ outcome at r → (m .kind ≡ codeOf (m .token)) × (lexemeTo (m .kind) (m .end) ≡ outcome at r)
+found-means at r answer m a o = decide (eqb (m .kind) (codeOf (m .token)))
+    (λ e. (eqb-true (m .kind) (codeOf (m .token)) e, rw (a, e) at o))
+    (λ e. absurd (not-miscoded r (rw (a, e) at o)))
+  where
+    not-miscoded : (r : StepRule) → miscoded ≡ outcome at r → ⊥
+    not-miscoded (found k n) q = let z : _≡_ {A = ℕ} 0 1 = cc in absurd (omega arith)
+    not-miscoded (stop j f n) q = let z : _≡_ {A = ℕ} 0 1 = cc in absurd (omega arith)
 
 -- what the innermost opener's state says of its code
 pub no-state : (top : Opened) → stateMeant top ≡ none → innermostOf top ≡ Nothing
@@ -82,7 +87,7 @@ unfolding verdictOf
 at-end-some doc at [] h = absurd (omega arith)
 at-end-some doc at (o ∷ os) h = simp add-zero
 
-unclosed-noted : (k : ℕ) → between AnotherDue UnclosedFormat (unclosed k) ≡ true
+pub unclosed-noted : (k : ℕ) → between AnotherDue UnclosedFormat (unclosed k) ≡ true
 unfolding unclosed
 unclosed-noted k = pick (eqb k HoleOpen) (isFormat k) (isQuoteOpen k)
   where

@@ -18,7 +18,7 @@ use Rattle.rules.proofs.Text.{decide, branch}
 use Rattle.rules.proofs.Runs.{starts-at, begins-more, begins-at, run-within, passes-inside}
 use Rattle.scan.specs.Reach.{linesOf}
 use Rattle.lexer.specs.ByClass.{fractionAlone}
-use Rattle.lexer.specs.Outcome.{Outcome, lexemeTo, refusedAt, outcome}
+use Rattle.lexer.specs.Outcome.{Outcome, lexemeTo, refusedAt, miscoded, outcome}
 use Rattle.lexer.proofs.ByClass.{moved, thenExponent, decimal-parts}
 
 -- Outcomes
@@ -125,6 +125,7 @@ module _ (t : List ℕ) (at : ℕ) where
 abbrev pub andExponent : List ℕ → Outcome → Outcome
 andExponent t (lexemeTo k e) = outcome e (exponent 0 (drop e t))
 andExponent t (refusedAt refusal start end) = refusedAt refusal start end
+andExponent t miscoded = miscoded
 
 then-at : (t : List ℕ) (m : ℕ) (r : Step) → outcome m (thenExponent (drop m t) r) ≡ andExponent t (outcome m r)
 then-at t m (found k n) = rw (drop-drop n m t) (outcome-moved m n (exponent 0 (drop (m + n) t)))

@@ -1,7 +1,7 @@
--- Laws of the loop's parts: the two words of a packed span, when a refusal has a note, and when the stack or the list is full.
-use Prim.Native.Nat.{ℕ, _%_, _^_, _<_, _≤_, max}
+-- Laws of the loop's parts: the span that two words name, when a refusal has a note, and when the stack or the list is full.
+use Prim.Native.Nat.{ℕ, _^_, _<_, _≤_, max}
 use native.Mathlib.Omega.{arith}
-use mathlib.Core.Path.{_≡_, refl, sym, _∙_, ap}
+use mathlib.Core.Path.{_≡_, sym, _∙_}
 use mathlib.Core.Bool.{true, false, cond, _&&_, false≢true}
 use lib.Dec.{leb, ltb, eqb}
 use borrow.Author.Tests.{ltb-true, eqb-true}
@@ -11,17 +11,11 @@ use Rattle.rules.specs.Spans.{span, spanOf, low, high}
 use Rattle.rules.proofs.Text.{decide}
 use Rattle.lexer.specs.declared.Cursor.{Cursor}
 use Rattle.lexer.specs.Cursor.{fullOf}
-use Rattle.rules.proofs.Spans.{same-span, low-of-span, high-of-span}
+use Rattle.rules.proofs.Spans.{span-of-words}
 
--- words that name the low 48 bits of two offsets within the limit name the offsets' span
-pub packed : (doc a e l h : ℕ) → a < 2 ^ 48 → e < 2 ^ 48 → spanOf l h ≡ span doc (a % 2 ^ 48) (e % 2 ^ 48) → spanOf l h ≡ span doc a e
-packed doc a e l h p q same = same ∙ same-span refl (omega arith) (omega arith)
-
--- and are its words
-pub packed-words : (doc a e l h : ℕ) → a < 2 ^ 48 → e < 2 ^ 48 → l < 2 ^ 64 → spanOf l h ≡ span doc (a % 2 ^ 48) (e % 2 ^ 48) → (l ≡ low (span doc a e)) × (h ≡ high (span doc a e))
-packed-words doc a e l h p q word same =
-    let named : spanOf l h ≡ span doc a e = packed doc a e l h p q same in
-    (sym (low-of-span l h word) ∙ ap low named, sym (high-of-span l h word) ∙ ap high named)
+-- the words of a span within the limit name it
+pub packed : (doc a e l h : ℕ) → a < 2 ^ 48 → e < 2 ^ 48 → (l ≡ low (span doc a e)) × (h ≡ high (span doc a e)) → spanOf l h ≡ span doc a e
+packed doc a e l h p q words = rw (words .0, words .1) (span-of-words (span doc a e) p q)
 
 -- a refusal with a note has an opener to note
 pub noted-open : (number depth : ℕ) → eqb number AnotherDue && ltb 0 depth ≡ true → 0 < depth

@@ -1,7 +1,7 @@
 -- The loop of `run`: where it stands (`Running`), that a lexeme takes it further, and that each way out tells its two users what `Runs` promises. What a whole call needs is `Standing`, kept under the premise that
 -- the steps began at the text's start.
-use Prim.Native.Nat.{ℕ, suc, _+_, _-_, _*_, _≤_, _<_, _^_, _%_}
-use mathlib.Core.Path.{_≡_, refl, ap, _∙_}
+use Prim.Native.Nat.{ℕ, suc, _+_, _-_, _*_, _≤_, _<_, _^_}
+use mathlib.Core.Path.{_≡_, refl, sym, ap, _∙_}
 use mathlib.Core.List.{List}
 use mathlib.Core.Bool.{Bool, true, false, cond, not, _&&_}
 use mathlib.Core.Option.{none}
@@ -9,33 +9,35 @@ use native.Mathlib.Omega.{arith}
 use lib.Dec.{leb, eqb}
 use lib.ListN.{length, drop, getD, length-drop, length-set}
 use lib.Seq.{getD-set-same}
-use borrow.Author.Tests.{lt-leb, ne-eqb}
+use borrow.Author.Tests.{le-leb, lt-leb, ne-eqb}
 use Rattle.rules.specs.Spans.{span, low, high}
 use Rattle.rules.specs.Utf8.{firstBad}
 use Rattle.rules.specs.Refusals.{StackFull, ListFull}
 use Rattle.rules.specs.Kinds.{Space, isSpace, isOpener, isCloser}
 use Rattle.rules.specs.Step.{step, found}
 use Rattle.rules.specs.Lexing.{placesOf, depthAfter}
-use Rattle.rules.proofs.Bounds.{found-inside, stop-number}
+use Rattle.rules.proofs.Bounds.{found-inside}
 use Rattle.rules.proofs.Text.{decide}
-use Rattle.source.specs.Meaning.{spanMeant}
 use Rattle.source.specs.declared.Span.{Span}
-use Rattle.token.specs.Codes.{stateMeant, ifOpener}
+use Rattle.token.specs.Codes.{codeOf, stateMeant, ifOpener}
 use Rattle.token.specs.declared.Opened.{Opened}
+use Rattle.token.specs.declared.Token.{Token}
 use Rattle.lexer.specs.declared.Cursor.{Cursor}
 use Rattle.lexer.specs.declared.Fault.{Fault}
-use Rattle.lexer.specs.declared.Lexeme.{Lexeme as LexemeFound}
+use Rattle.lexer.specs.declared.Match.{Match}
+use Rattle.lexer.specs.declared.Ran.{Ran}
+use Rattle.lexer.specs.declared.Ran.the-variants.{Reached}
 use Rattle.lexer.specs.declared.Step.{Step}
 use Rattle.lexer.specs.declared.Step.the-variants.{Found, Refused}
 use Rattle.lexer.specs.Cursor.{start, advanceOf, fullOf}
 use Rattle.lexer.specs.Memory.{PutAt, topOf}
 use Rattle.lexer.specs.Outcome.{lexemeTo, refusedAt, outcome, stepMeant, innermostOf}
-use Rattle.lexer.specs.Results.{faultOf, noFault, CanAdvance}
-use Rattle.lexer.specs.Running.{CanRun, Runs, LoneIf, innermostIn}
+use Rattle.lexer.specs.Results.{refusedBy, CanAdvance}
+use Rattle.lexer.specs.Running.{CanRun, innermostIn, ranFull, LoneIf, byText, byStack, SingleHalted, SingleReached, Runs}
 use Rattle.lexer.proofs.Opening.{opened-code}
-use Rattle.lexer.proofs.Parts.{packed-words, full-opener, full-other, space-opens}
-use Rattle.lexer.proofs.Standing.{Standing, standing-start, Advanced, advanced, room-list, room-stack, space-depth, depth-opens, depth-rest, depth-stays, kinds-as-long, words-as-long}
-use Rattle.lexer.proofs.Loop.{no-state, outcome-found, Stop, outcome-stop, found-means, fault-means, Wrote, can-stop, can-finish, stop-out, stop-small, end-out, full-out, goes-on, took, took-small}
+use Rattle.lexer.proofs.Parts.{full-opener, full-other, space-opens, opener-listed}
+use Rattle.lexer.proofs.Standing.{Standing, standing-start, Advanced, advanced, has-room, room-list, room-stack, space-depth, depth-opens, depth-rest, depth-stays, kinds-as-long, words-as-long}
+use Rattle.lexer.proofs.Loop.{no-state, outcome-found, found-means, fault-means, Wrote, can-stop, can-finish, stop-out, stop-small, end-out, full-out, goes-on, took, took-small}
 
 -- the state that the stack gives is that of its innermost code
 pub top-code-in : (depth : ℕ) (sk : List ℕ) (top : Opened) → topOf depth sk top → innermostOf top ≡ innermostIn depth sk
@@ -48,18 +50,14 @@ space-fits : (stack places : ℕ) (c : Cursor) (k : ℕ) → isSpace k ≡ true 
 unfolding fullOf
 space-fits stack places c k b = rw (b, space-opens k b)
 
--- where places are left, nothing is full
-pub nothing-full : (stack places : ℕ) (c : Cursor) (k : ℕ) → c .lexemes < places → c .depth < stack → fullOf stack places c k ≡ 0
-unfolding fullOf
-nothing-full stack places c k l d = rw (lt-leb stack (c .depth) d, lt-leb places (c .lexemes) l) (pick (isOpener k) (isSpace k))
-  where
-    pick : (o s : Bool) → cond (o && false) StackFull (cond (not s && false) ListFull 0) ≡ 0
-    pick true true = refl
-    pick true false = refl
-    pick false true = refl
-    pick false false = refl
-
 module _ (doc : ℕ) (text : List ℕ) (from : Cursor) (stop : ℕ) (ks₀ ws₀ sk₀ sw₀ : List ℕ) where
+  pub record Untaken (ks sk sw : List ℕ) (c : Cursor) (top : Opened) : Type 0 where
+    pub cursor : c ≡ from
+    pub innermost : innermostOf top ≡ innermostIn (from .depth) sk₀
+    pub kinds : ks ≡ ks₀
+    pub stackKinds : sk ≡ sk₀
+    pub stackWords : sw ≡ sw₀
+
   pub record Running (ks ws sk sw : List ℕ) (c : Cursor) (top : Opened) (kind : ℕ) : Type 0 where
     pub small : length text < 2 ^ 48
     pub before : stop ≤ length text
@@ -76,9 +74,9 @@ module _ (doc : ℕ) (text : List ℕ) (from : Cursor) (stop : ℕ) (ks₀ ws₀
     pub stackWordsLength : length sw ≡ length sw₀
     -- what a whole call needs
     pub whole : from ≡ start → stop ≡ length text → firstBad text ≡ none → Standing doc text ks₀ ws₀ sk₀ sw₀ ks ws sk sw c
-    -- what a single step needs: before it nothing has changed, after it the lexeme is the text's answer
-    pub first : c .at ≡ from .at → (c ≡ from) × (innermostOf top ≡ innermostIn (from .depth) sk₀)
-    pub second : from .at < c .at → stop ≡ from .at + 1 → lexemeTo kind (c .at) ≡ outcome (from .at) (step (innermostIn (from .depth) sk₀) (drop (from .at) text))
+    -- what a single step needs: before it nothing has changed, after it the lexeme is the text's answer and stands where it belongs
+    pub first : c .at ≡ from .at → Untaken ks sk sw c top
+    pub second : from .at < c .at → stop ≡ from .at + 1 → SingleReached doc text from ks₀ sk₀ sw₀ ks sk sw c kind
 
   pub running-start : (top : Opened) (kind : ℕ) → doc < 2 ^ 32 → CanRun text from stop sk₀ sw₀ → topOf (from .depth) sk₀ top → Running ks₀ ws₀ sk₀ sw₀ from top kind
   running-start top kind id can t = record {
@@ -96,7 +94,7 @@ module _ (doc : ℕ) (text : List ℕ) (from : Cursor) (stop : ℕ) (ks₀ ws₀
     stackKindsLength = refl;
     stackWordsLength = refl;
     whole = λ f e g. rw f (standing-start doc text ks₀ ws₀ sk₀ sw₀ id (can .small) g);
-    first = λ e. (refl, top-code-in (from .depth) sk₀ top t);
+    first = λ e. record { cursor = refl; innermost = top-code-in (from .depth) sk₀ top t; kinds = refl; stackKinds = refl; stackWords = refl };
     second = λ l e. absurd (omega arith);
   }
 
@@ -108,17 +106,8 @@ module _ {doc : ℕ} {text : List ℕ} {from : Cursor} {stop : ℕ} {ks₀ ws₀
   left = omega (arith, here, length-drop (c .at) text)
 
   -- a single step has not been taken yet
-  untaken : stop ≡ from .at + 1 → (c ≡ from) × (innermostOf top ≡ innermostIn (from .depth) sk₀)
+  untaken : stop ≡ from .at + 1 → Untaken doc text from stop ks₀ ws₀ sk₀ sw₀ ks sk sw c top
   untaken e = s .first (omega (arith, s .forward))
-
-  -- the number that the code computes, from the places that it counted, is the rules': for a lexeme that opens, and for one that does not
-  pub opener-number : {stack places number : ℕ} (k : ℕ) → stack ≡ placesOf sk₀ sw₀ → places ≡ placesOf ks₀ ws₀ → isSpace k ≡ false → isOpener k ≡ true →
-      number ≡ cond (leb stack (c .depth)) StackFull (cond (leb places (c .lexemes)) ListFull 0) → number ≡ fullOf (placesOf sk₀ sw₀) (placesOf ks₀ ws₀) c k
-  opener-number {stack} {places} k a b z o e = rw (← a, ← b) (e ∙ full-opener stack places c k z o)
-
-  pub other-number : {stack places number : ℕ} (k : ℕ) → stack ≡ placesOf sk₀ sw₀ → places ≡ placesOf ks₀ ws₀ → isSpace k ≡ false → isOpener k ≡ false →
-      number ≡ cond (leb places (c .lexemes)) ListFull 0 → number ≡ fullOf (placesOf sk₀ sw₀) (placesOf ks₀ ws₀) c k
-  other-number {stack} {places} k a b z o e = rw (← a, ← b) (e ∙ full-other stack places c k z o)
 
   -- what a lexeme that was found says of the text
   pub record Taken (k e : ℕ) : Type 0 where
@@ -126,44 +115,43 @@ module _ {doc : ℕ} {text : List ℕ} {from : Cursor} {stop : ℕ} {ks₀ ws₀
     pub moves : c .at < e
     pub fits : e ≤ length text
 
-  pub taken : (answer : Step) (l : LexemeFound) → answer ≡ Found l → stepMeant answer ≡ outcome (c .at) (step (innermostOf top) (drop (c .at) text)) → Taken (l .kind) (l .end)
-  taken answer l a o =
-      let is : lexemeTo (l .kind) (l .end) ≡ outcome (c .at) (step (innermostOf top) (drop (c .at) text)) = found-means answer l a ∙ o in
-      let x : (n : ℕ) × (step (innermostOf top) (drop (c .at) text) ≡ found (l .kind) n) × (l .end ≡ c .at + n) =
-      outcome-found (c .at) (l .kind) (l .end) (step (innermostOf top) (drop (c .at) text)) is in
-      let i : (0 < x .0) × (x .0 ≤ length (drop (c .at) text)) = found-inside (innermostOf top) (drop (c .at) text) (l .kind) (x .0) left (x .1) in
+  pub taken : (answer : Step) (m : Match) → answer ≡ Found m → stepMeant answer ≡ outcome (c .at) (step (innermostOf top) (drop (c .at) text)) → Taken (m .kind) (m .end)
+  taken answer m a o =
+      let is : lexemeTo (m .kind) (m .end) ≡ outcome (c .at) (step (innermostOf top) (drop (c .at) text)) = found-means (c .at) (step (innermostOf top) (drop (c .at) text)) answer m a o .1 in
+      let x : (n : ℕ) × (step (innermostOf top) (drop (c .at) text) ≡ found (m .kind) n) × (m .end ≡ c .at + n) =
+      outcome-found (c .at) (m .kind) (m .end) (step (innermostOf top) (drop (c .at) text)) is in
+      let i : (0 < x .0) × (x .0 ≤ length (drop (c .at) text)) = found-inside (innermostOf top) (drop (c .at) text) (m .kind) (x .0) left (x .1) in
       let d : length (drop (c .at) text) ≡ length text - c .at = length-drop (c .at) text in
-      let e : l .end ≡ c .at + x .0 = x .2 in
+      let e : m .end ≡ c .at + x .0 = x .2 in
       record { is = is; moves = omega arith; fits = omega (arith, here) }
 
-  -- a lexeme that the text refuses
-  pub refused-out : (answer : Step) (f g : Fault) → answer ≡ Refused g → f ≡ faultOf answer (c .at) → stepMeant answer ≡ outcome (c .at) (step (innermostOf top) (drop (c .at) text)) →
-      Runs doc text from stop ks₀ ws₀ sk₀ sw₀ (record { cur = c; fault = f; kind = 0 }) ks ws sk sw
-  refused-out answer f g a q o = record {
-    whole = λ b e u.
-        let w : Standing doc text ks₀ ws₀ sk₀ sw₀ ks ws sk sw c = s .whole b e u in
-        record {
-          stops = λ z. can-stop w f (stop-small w here top f (s .state) says);
-          refused = λ z r v. stop-out w here top f r (s .state) says v;
-          finishes = λ z. absurd (some-number z);
-          ended = λ z r v. absurd (some-number z);
-        };
-    single = λ e l d.
-        let first : (c ≡ from) × (innermostOf top ≡ innermostIn (from .depth) sk₀) = untaken e in
-        let at : c .at ≡ from .at = ap (λ (x : Cursor). x .at) (first .0) in
-        record {
-          refused = λ z. rw (← first .1, ← at) says;
-          found = λ z. absurd (some-number z);
-        };
-  }
-    where
-      says : refusedAt (f .number) (f .start) (f .end) ≡ outcome (c .at) (step (innermostOf top) (drop (c .at) text))
-      says = fault-means answer f g (c .at) a q ∙ o
+  -- its code is its token's
+  pub token-code : (answer : Step) (m : Match) → answer ≡ Found m → stepMeant answer ≡ outcome (c .at) (step (innermostOf top) (drop (c .at) text)) → m .kind ≡ codeOf (m .token)
+  token-code answer m a o = found-means (c .at) (step (innermostOf top) (drop (c .at) text)) answer m a o .0
 
-      some-number : f .number ≡ 0 → ⊥
-      some-number z =
-          let x : Stop (c .at) (step (innermostOf top) (drop (c .at) text)) (f .number) (f .start) (f .end) = outcome-stop (c .at) (f .number) (f .start) (f .end) (step (innermostOf top) (drop (c .at) text)) says in
-          omega (arith, stop-number (innermostOf top) (drop (c .at) text) (f .number) (x .from) (x .size) (x .is))
+  -- a lexeme that the text refuses
+  pub refused-out : (answer : Step) (r : Ran) (f : Fault) → answer ≡ Refused f → r ≡ refusedBy answer c → stepMeant answer ≡ outcome (c .at) (step (innermostOf top) (drop (c .at) text)) →
+      Runs doc text from stop ks₀ ws₀ sk₀ sw₀ r ks ws sk sw
+  unfolding refusedBy
+  refused-out answer r f a q o =
+      let says : refusedAt (f .number) (f .start) (f .end) ≡ outcome (c .at) (step (innermostOf top) (drop (c .at) text)) = fault-means answer f a ∙ o in
+      rw (q, a)
+      (record {
+        whole = λ b e u.
+            let w : Standing doc text ks₀ ws₀ sk₀ sw₀ ks ws sk sw c = s .whole b e u in
+            record {
+              stops = can-stop w f (stop-small w here top f (s .state) says);
+              refused = λ r v. stop-out w here top f r (s .state) says v;
+            };
+        single = λ e l.
+            let before = untaken e in
+            let at : c .at ≡ from .at = ap (λ (x : Cursor). x .at) (before .cursor) in
+            record {
+              refuses = byText (rw (← before .innermost, ← at) says);
+              stackKinds = before .stackKinds;
+              stackWords = before .stackWords;
+            };
+      })
 
   module _ {k e : ℕ} (t : Taken k e) where
     pub can-advance : placesOf sk₀ sw₀ < 2 ^ 63 → CanAdvance c e
@@ -176,22 +164,55 @@ module _ {doc : ℕ} {text : List ℕ} {from : Cursor} {stop : ℕ} {ks₀ ws₀
       shallow = omega (arith, s .shallow);
     }
 
-    -- there is no room for it
-    pub full-stop : (number : ℕ) → number ≡ fullOf (placesOf sk₀ sw₀) (placesOf ks₀ ws₀) c k → (number ≡ 0 → ⊥) →
-        Runs doc text from stop ks₀ ws₀ sk₀ sw₀ (record { cur = c; fault = record { end = e; number = number; start = c .at }; kind = 0 }) ks ws sk sw
-    full-stop number f some-number = record {
+    -- there is no room for it: 30 of an opener, 31 of any lexeme
+    full-stop : (number : ℕ) → number ≡ fullOf (placesOf sk₀ sw₀) (placesOf ks₀ ws₀) c k → (number ≡ 0 → ⊥) →
+        (stop ≡ from .at + 1 → from .lexemes < placesOf ks₀ ws₀ → SingleHalted doc text from ks₀ sk₀ sw₀ ks sk sw (record { end = e; number = number; start = c .at })) →
+        Runs doc text from stop ks₀ ws₀ sk₀ sw₀ (ranFull c (c .at) e number) ks ws sk sw
+    full-stop number f some-number once = record {
       whole = λ b q u.
           let w : Standing doc text ks₀ ws₀ sk₀ sw₀ ks ws sk sw c = s .whole b q u in
           record {
-            stops = λ z. can-stop w (record { end = e; number = number; start = c .at }) (took-small w here (took w here top k e (s .state) (t .is)));
-            refused = λ z r v. full-out w here k e number r (took w here top k e (s .state) (t .is)) f some-number v;
-            finishes = λ z. absurd (some-number z);
-            ended = λ z r v. absurd (some-number z);
+            stops = can-stop w (record { end = e; number = number; start = c .at }) (took-small w here (took w here top k e (s .state) (t .is)));
+            refused = λ r v. full-out w here k e number r (took w here top k e (s .state) (t .is)) f some-number v;
           };
-      single = λ q l d.
-          let same : c ≡ from = (untaken q) .0 in
-          absurd (some-number (f ∙ rw same (nothing-full (placesOf sk₀ sw₀) (placesOf ks₀ ws₀) from k l d)));
+      single = once;
     }
+
+    pub stack-full : isOpener k ≡ true → placesOf sk₀ sw₀ ≤ c .depth → Runs doc text from stop ks₀ ws₀ sk₀ sw₀ (ranFull c (c .at) e StackFull) ks ws sk sw
+    stack-full o le =
+        let full : cond (leb (placesOf sk₀ sw₀) (c .depth)) StackFull (cond (leb (placesOf ks₀ ws₀) (c .lexemes)) ListFull 0) ≡ StackFull = rw (le-leb (placesOf sk₀ sw₀) (c .depth) le) in
+        full-stop StackFull (sym full ∙ full-opener (placesOf sk₀ sw₀) (placesOf ks₀ ws₀) c k (opener-listed k o) o) (λ z. absurd (omega arith))
+        (λ q l.
+        let before = untaken q in
+        let at : c .at ≡ from .at = ap (λ (x : Cursor). x .at) (before .cursor) in
+        let depth : c .depth ≡ from .depth = ap (λ (x : Cursor). x .depth) (before .cursor) in
+        record {
+          refuses = byStack k (rw (← before .innermost, ← at) (t .is)) (rw (o, ← depth) (le-leb (placesOf sk₀ sw₀) (c .depth) le)) refl at;
+          stackKinds = before .stackKinds;
+          stackWords = before .stackWords;
+        })
+
+    -- a single step has room in the list
+    list-full : fullOf (placesOf sk₀ sw₀) (placesOf ks₀ ws₀) c k ≡ ListFull → placesOf ks₀ ws₀ ≤ c .lexemes → Runs doc text from stop ks₀ ws₀ sk₀ sw₀ (ranFull c (c .at) e ListFull) ks ws sk sw
+    list-full f le =
+        full-stop ListFull (sym f) (λ z. absurd (omega arith))
+        (λ q l. absurd (omega (arith, le, ap (λ (x : Cursor). x .lexemes) (untaken q .cursor))))
+
+    pub opener-unlisted : isOpener k ≡ true → c .depth < placesOf sk₀ sw₀ → placesOf ks₀ ws₀ ≤ c .lexemes → Runs doc text from stop ks₀ ws₀ sk₀ sw₀ (ranFull c (c .at) e ListFull) ks ws sk sw
+    opener-unlisted o lt le =
+        list-full (sym (full-opener (placesOf sk₀ sw₀) (placesOf ks₀ ws₀) c k (opener-listed k o) o) ∙ rw (lt-leb (placesOf sk₀ sw₀) (c .depth) lt, le-leb (placesOf ks₀ ws₀) (c .lexemes) le)) le
+
+    pub other-unlisted : isSpace k ≡ false → isOpener k ≡ false → placesOf ks₀ ws₀ ≤ c .lexemes → Runs doc text from stop ks₀ ws₀ sk₀ sw₀ (ranFull c (c .at) e ListFull) ks ws sk sw
+    other-unlisted b o le =
+        list-full (sym (full-other (placesOf sk₀ sw₀) (placesOf ks₀ ws₀) c k b o) ∙ rw (le-leb (placesOf ks₀ ws₀) (c .lexemes) le)) le
+
+    -- or there is
+    pub opener-fits : isOpener k ≡ true → c .depth < placesOf sk₀ sw₀ → c .lexemes < placesOf ks₀ ws₀ → fullOf (placesOf sk₀ sw₀) (placesOf ks₀ ws₀) c k ≡ 0
+    opener-fits o lt ll =
+        sym (full-opener (placesOf sk₀ sw₀) (placesOf ks₀ ws₀) c k (opener-listed k o) o) ∙ rw (lt-leb (placesOf sk₀ sw₀) (c .depth) lt, lt-leb (placesOf ks₀ ws₀) (c .lexemes) ll)
+
+    pub other-fits : isSpace k ≡ false → isOpener k ≡ false → c .lexemes < placesOf ks₀ ws₀ → fullOf (placesOf sk₀ sw₀) (placesOf ks₀ ws₀) c k ≡ 0
+    other-fits b o ll = sym (full-other (placesOf sk₀ sw₀) (placesOf ks₀ ws₀) c k b o) ∙ rw (lt-leb (placesOf ks₀ ws₀) (c .lexemes) ll)
 
     -- the loop goes on
     pub runs-on : (top′ : Opened) {ks′ ws′ sk′ sw′ : List ℕ} → fullOf (placesOf sk₀ sw₀) (placesOf ks₀ ws₀) c k ≡ 0 → Wrote doc c k e ks ws sk sw ks′ ws′ sk′ sw′ →
@@ -219,9 +240,18 @@ module _ {doc : ℕ} {text : List ℕ} {from : Cursor} {stop : ℕ} {ks₀ ws₀
               goes-on v here (took v here top k e (s .state) (t .is)) f w;
           first = λ q. absurd (omega (arith, m .at, t .moves, s .forward));
           second = λ l q.
-              let first : (c ≡ from) × (innermostOf top ≡ innermostIn (from .depth) sk₀) = untaken q in
-              let at : c .at ≡ from .at = ap (λ (x : Cursor). x .at) (first .0) in
-              rw (m .at, ← first .1, ← at) (t .is);
+              let u = untaken q in
+              let at : c .at ≡ from .at = ap (λ (x : Cursor). x .at) (u .cursor) in
+              let depth : c .depth ≡ from .depth = ap (λ (x : Cursor). x .depth) (u .cursor) in
+              let lexemes : c .lexemes ≡ from .lexemes = ap (λ (x : Cursor). x .lexemes) (u .cursor) in
+              record {
+                is = rw (m .at, ← u .innermost, ← at) (t .is);
+                depth = rw (← depth) (m .depth);
+                room = rw (← depth) (has-room (placesOf sk₀ sw₀) (placesOf ks₀ ws₀) c k f .0);
+                kinds = rw (← u .kinds, ← lexemes) (w .kinds);
+                stackKinds = rw (← u .stackKinds, ← depth) (w .stackKinds);
+                stackWords = rw (m .at, ← u .stackWords, ← at, ← depth) (w .stackWords);
+              };
         }
 
     pub runs-less : {c′ : Cursor} (j : ℕ) → c′ ≡ advanceOf c j e → length text - c′ .at < length text - c .at
@@ -264,10 +294,7 @@ module _ {doc : ℕ} {text : List ℕ} {from : Cursor} {stop : ℕ} {ks₀ ws₀
           let r : c .depth < placesOf sk₀ sw₀ = room-stack (placesOf sk₀ sw₀) (placesOf ks₀ ws₀) c k room o in
           (omega (arith, s .stackKindsLength), omega (arith, s .stackWordsLength))
 
-      module _ {ks′ ws′ : List ℕ} (sp : Span) (word : sp .low < 2 ^ 64) (same : spanMeant sp ≡ span doc (c .at % 2 ^ 48) (e % 2 ^ 48)) (put : PutAt (c .lexemes) k sp ks ws ks′ ws′) where
-        words-here : (sp .low ≡ low (span doc (c .at) e)) × (sp .high ≡ high (span doc (c .at) e))
-        words-here = packed-words doc (c .at) e (sp .low) (sp .high) (omega (arith, here, s .small)) (omega (arith, t .fits, s .small)) word same
-
+      module _ {ks′ ws′ : List ℕ} (sp : Span) (words-here : (sp .low ≡ low (span doc (c .at) e)) × (sp .high ≡ high (span doc (c .at) e))) (put : PutAt (c .lexemes) k sp ks ws ks′ ws′) where
         kinds-long : length ks′ ≡ length ks
         kinds-long = ap length (put .kinds) ∙ length-set ks (c .lexemes) k
 
@@ -312,15 +339,10 @@ module _ {doc : ℕ} {text : List ℕ} {from : Cursor} {stop : ℕ} {ks₀ ws₀
 
 -- the last position is reached
 module _ {doc : ℕ} {text : List ℕ} {from : Cursor} {stop : ℕ} {ks₀ ws₀ sk₀ sw₀ ks ws sk sw : List ℕ} {c : Cursor} {top : Opened} {kind : ℕ} (s : Running doc text from stop ks₀ ws₀ sk₀ sw₀ ks ws sk sw c top kind) where
-  pub end-stop : stop ≤ c .at → Runs doc text from stop ks₀ ws₀ sk₀ sw₀ (record { cur = c; fault = noFault; kind = kind }) ks ws sk sw
-  end-stop h = record {
+  pub end-stop : (token : Token) → kind ≡ codeOf token → stop ≤ c .at → Runs doc text from stop ks₀ ws₀ sk₀ sw₀ (Reached c token) ks ws sk sw
+  end-stop token code h = record {
     whole = λ b q u.
         let w : Standing doc text ks₀ ws₀ sk₀ sw₀ ks ws sk sw c = s .whole b q u in
-        record {
-          stops = λ z. absurd (z refl);
-          refused = λ z r v. absurd (z refl);
-          finishes = λ z. can-finish w;
-          ended = λ z r v. end-out w r (omega (arith, q)) v;
-        };
-    single = λ q l d. record { refused = λ z. absurd (z refl); found = λ z. s .second (omega (arith, q)) q };
+        record { finishes = can-finish w; ended = λ r v. end-out w r (omega (arith, q)) v };
+    single = λ q l. rw (← code) (s .second (omega (arith, q)) q);
   }

@@ -54,7 +54,7 @@ and-second true b e t = e
 and-second false b e t = absurd (false≢true t)
 
 -- where there is room for a lexeme, neither the stack nor the list is full
-has-room : (stack places : ℕ) (c : Cursor) (k : ℕ) → fullOf stack places c k ≡ 0 → (isOpener k && leb stack (c .depth) ≡ false) × (not (isSpace k) && leb places (c .lexemes) ≡ false)
+pub has-room : (stack places : ℕ) (c : Cursor) (k : ℕ) → fullOf stack places c k ≡ 0 → (isOpener k && leb stack (c .depth) ≡ false) × (not (isSpace k) && leb places (c .lexemes) ≡ false)
 unfolding fullOf
 has-room stack places c k f = neither (isOpener k && leb stack (c .depth)) (not (isSpace k) && leb places (c .lexemes)) 29 30 f
 

@@ -6,3 +6,4 @@ pub mod Cursor
 pub mod Memory
 pub mod Results
 pub mod Running
+pub mod Stepping

@@ -2,13 +2,11 @@
 use Prim.Native.Nat.{ℕ, _+_, _≤_, _<_, _^_}
 use mathlib.Core.List.{List}
 use mathlib.Core.Bool.{cond}
-use lib.Dec.{leb, ltb}
-use lib.ListN.{length, drop}
-use Rattle.rules.specs.Refusals.{TooLong, WrongForm}
-use Rattle.rules.specs.Spans.{limit}
-use Rattle.rules.specs.Kinds.{Nothing, isOpener}
-use Rattle.rules.specs.Step.{Step as StepRule, found, stop, step}
-use Rattle.token.specs.Codes.{stateCode}
+use lib.Dec.{eqb}
+use lib.ListN.{length}
+use Rattle.rules.specs.Kinds.{Nothing}
+use Rattle.rules.specs.Step.{Step as StepRule, found, stop}
+use Rattle.token.specs.Codes.{codeOf, stateCode}
 use Rattle.token.specs.declared.Opened.{Opened}
 use Rattle.token.specs.declared.Opened.the-variants.{State as OpenedState, NoOpener}
 use Rattle.lexer.specs.declared.Step.{Step}
@@ -17,23 +15,18 @@ use Rattle.lexer.specs.declared.Step.the-variants.{Found, Refused}
 pub data Outcome : Type 0 where
   lexemeTo : (kind end : ℕ) → Outcome
   refusedAt : (number start end : ℕ) → Outcome
+  -- a code beside a token of another code: no step of the rules has this outcome
+  miscoded : Outcome
 
 -- of a step of the rules that begins at `at`
 abbrev pub outcome : (at : ℕ) → StepRule → Outcome
 outcome at (found k n) = lexemeTo k (at + n)
 outcome at (stop number from n) = refusedAt number (at + from) (at + from + n)
 
--- of the code's answer
+-- of the code's answer: a token and its code
 abbrev pub stepMeant : Step → Outcome
-stepMeant (Found l) = lexemeTo (l .kind) (l .end)
+stepMeant (Found m) = cond (eqb (m .kind) (codeOf (m .token))) (lexemeTo (m .kind) (m .end)) miscoded
 stepMeant (Refused f) = refusedAt (f .number) (f .start) (f .end)
-
--- of a step at any position, where a code is innermost
-unfoldable pub steppedAt : List ℕ → (at innermost : ℕ) → Outcome
-steppedAt text at k =
-    cond (ltb limit (length text)) (refusedAt TooLong 0 0) (
-    cond (leb (length text) at) (refusedAt WrongForm 0 0)
-    (outcome at (step (cond (isOpener k) k Nothing) (drop at text))))
 
 -- a position in a text within the limit
 pub record Here (at : ℕ) (t : List ℕ) : Type 0 where

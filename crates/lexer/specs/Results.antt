@@ -14,6 +14,8 @@ use Rattle.lexer.specs.declared.Answer.the-variants.{Accepted, Refused a
 use Rattle.lexer.specs.declared.Cursor.{Cursor}
 use Rattle.lexer.specs.declared.Fault.{Fault}
 use Rattle.lexer.specs.declared.Lexed.{Lexed}
+use Rattle.lexer.specs.declared.Ran.{Ran}
+use Rattle.lexer.specs.declared.Ran.the-variants.{Reached, Halted}
 use Rattle.lexer.specs.declared.Step.{Step}
 use Rattle.lexer.specs.declared.Step.the-variants.{Found, Refused}
 
@@ -69,13 +71,10 @@ verdictAt doc c sk sw =
     cond (eqb (c .depth) 0) (countedAt accepted c)
     (countedAt (refused (record { number = unclosed (getD sk (c .depth - 1) 0); at = span doc (c .at) (c .at); note = some (openerAt (c .depth) sw) })) c)
 
-unfoldable pub faultOf : Step → ℕ → Fault
-faultOf (Refused f) at = f
-faultOf (Found l) at = record { end = at; number = 0; start = at }
-
--- the code's word for "no fault"
-abbrev pub noFault : Fault
-noFault = record { end = 0; number = 0; start = 0 }
+-- where a step was refused
+unfoldable pub refusedBy : Step → Cursor → Ran
+refusedBy (Refused f) c = Halted c f
+refusedBy (Found m) c = Reached c (m .token)
 
 -- no count can overflow; no more is open than the deepest
 pub record CanAdvance (c : Cursor) (end : ℕ) : Type 0 where
@@ -102,3 +101,12 @@ pub record CanFinish (c : Cursor) (sk sw : List ℕ) : Type 0 where
   pub stackKinds : c .depth ≤ length sk
   pub stackWords : c .depth * 2 ≤ length sw
   pub counts : CanReport c
+
+-- of steps that were refused; those that were not have nothing to report
+abbrev pub CanHalt : Ran → List ℕ → Type 0
+CanHalt (Halted c f) sw = CanStop f c sw
+CanHalt (Reached c t) sw = CanReport c
+
+unfoldable pub haltedWith : (doc : ℕ) → Ran → List ℕ → LexedRule
+haltedWith doc (Halted c f) sw = refusedWith doc f c (noteAt (f .number) (c .depth) sw)
+haltedWith doc (Reached c t) sw = countedAt accepted c

@@ -1,3 +1,8 @@
+// RCL -- A reasonable configuration language.
+// Copyright 2023 Ruud van Asseldonk
+// Licensed under the Apache License, Version 2.0 (the "License"): see NOTICE.
+// From src/lexer.rs of RCL, changed: one function for plain and format strings, and an error is a numbered refusal.
+
 // Inside string literals and format strings.
 ghost use mathlib.Core.Path.{_≡_};
 ghost use mathlib.Core.Bool.{true, cond, not, _&&_, _||_};

@@ -1,15 +1,19 @@
+// RCL -- A reasonable configuration language.
+// Copyright 2023 Ruud van Asseldonk
+// Licensed under the Apache License, Version 2.0 (the "License"): see NOTICE.
+// From src/lexer.rs of RCL, changed: lexemes and openers go to lent arrays, steps and bytes are counted, and an error is a numbered refusal.
+
 // Lexing a text into a lent list, with a lent stack. The loop stands in a function of its own, `run`, which is the one place where steps are taken: the optimiser then puts the whole
 // step into the loop.
 ghost use mathlib.Core.Path.{_≡_};
-ghost use mathlib.Core.Bool.{true, false, cond};
-ghost use lib.Dec.{leb};
-ghost use Rattle.rules.specs.Refusals.{StackFull, ListFull};
+ghost use mathlib.Core.Bool.{true, false};
 ghost use Prim.Native.Nat.{_≤_, max, pred};
 ghost use lib.ListN.{length};
 ghost use Rattle.rules.specs.Kinds.{Space, isSpace, isOpener, isCloser};
 ghost use Rattle.rules.specs.Lexing.{Lexes};
 ghost use Rattle.lexer.specs.Cursor.{advanceOf};
-ghost use Rattle.lexer.specs.Results.{lexedMeant, lexedAt, refusedWith, CanAdvance, CanReport, CanStop, CanFinish, noteAt, verdictAt, faultOf, noFault};
+ghost use Rattle.lexer.specs.Results.{lexedMeant, lexedAt, refusedWith, refusedBy, CanAdvance, CanReport, CanStop, CanFinish, CanHalt, noteAt, verdictAt, haltedWith};
+ghost use Rattle.lexer.specs.Memory.{topOf};
 ghost use Rattle.lexer.specs.Quotes.{modeOf};
 ghost use Rattle.lexer.specs.Running.{CanRun, Runs, LoneIf, ranFull};
 use crate::Answer;
@@ -21,30 +25,12 @@ use crate::Ran;
 use crate::Step;
 use crate::lent;
 use crate::next;
+use crate::pack;
 use source::Note;
 use source::Refusal;
-use source::Span;
+use token::Opened;
+use token::Token;
 use utf8::Checked;
-
-// 31 where the list has no room for a lexeme, else 0.
-fn list_full(cur: Cursor, places: usize) -> u8
-    ensures { λ r. ⌜ r ≡ cond (leb places (cur .lexemes)) ListFull 0 ⌝ }
-{
-    if places <= cur.lexemes {
-        return 31;
-    }
-    0
-}
-
-// 30 or 31 where the stack or the list has no room for an opener, else 0.
-fn full(cur: Cursor, stack: usize, places: usize) -> u8
-    ensures { λ r. ⌜ r ≡ cond (leb stack (cur .depth)) StackFull (cond (leb places (cur .lexemes)) ListFull 0) ⌝ }
-{
-    if stack <= cur.depth {
-        return 30;
-    }
-    list_full(cur, places)
-}
 
 fn greater(a: usize, b: usize) -> usize
     ensures { λ r. ⌜ r ≡ max a b ⌝ }
@@ -145,7 +131,7 @@ fn stopped(doc: u32, fault: Fault, cur: Cursor, swords: &[u64]) -> Lexed
     requires { ⌜ CanStop fault cur (now swords) ⌝ }
     ensures { λ r. ⌜ lexedMeant r ≡ refusedWith doc fault cur (noteAt (fault .number) (cur .depth) (now (swords .entry))) ⌝ }
 {
-    let at = Span::pack(doc, fault.start, fault.end);
+    let at = pack(doc, fault.start, fault.end);
     let number = fault.number;
     let depth = cur.depth;
     if (number == 24) & (0 < depth) {
@@ -180,7 +166,7 @@ fn report_unclosed_delimiters(doc: u32, cur: Cursor, skinds: &[u8], swords: &[u6
     }
     let number = token::unclosed_number(skinds[depth - 1]);
     let opener = lent::opener(swords, depth);
-    let at = Span::pack(doc, cur.at, cur.at);
+    let at = pack(doc, cur.at, cur.at);
     result(
         Answer::Refused(Refusal {
             number: number,
@@ -191,33 +177,31 @@ fn report_unclosed_delimiters(doc: u32, cur: Cursor, skinds: &[u8], swords: &[u6
     )
 }
 
-// The fault of a step that was refused.
-fn fault_of(answer: Step, at: usize) -> Fault
-    ensures { λ r. ⌜ r ≡ faultOf answer at ⌝ }
+// The steps end at a step that was refused.
+fn refused_step(answer: Step, cur: Cursor) -> Ran
+    ensures { λ r. ⌜ r ≡ refusedBy answer cur ⌝ }
 {
     match answer {
-        Step::Refused(fault) => fault,
-        Step::Found(_) => Fault {
-            end: at,
-            number: 0,
-            start: at,
-        },
+        Step::Refused(fault) => Ran::Halted(cur, fault),
+        Step::Found(lexeme) => {
+            let token = lexeme.token;
+            Ran::Reached(cur, token)
+        }
     }
 }
 
-// The steps end at a lexeme for which there is no room.
+// The steps end at a lexeme for which there is no room: 30 or 31.
 fn no_room(cur: Cursor, at: usize, end: usize, number: u8) -> Ran
     ensures { λ r. ⌜ r ≡ ranFull cur at end number ⌝ }
 {
-    Ran {
-        cur: cur,
-        fault: Fault {
+    Ran::Halted(
+        cur,
+        Fault {
             end: end,
             number: number,
             start: at,
         },
-        kind: 0,
-    }
+    )
 }
 
 // Whether the step at `at`, which comes after a lexeme and before `stop`, is a Space of one byte. Many lexemes have one behind them, and a yes saves a turn of the loop; a no says nothing.
@@ -237,70 +221,57 @@ fn lone_space(text: &[u8], at: usize, stop: usize, mode: Mode) -> bool
     b' ' < scan::byte_at(text, at + 1)
 }
 
-// No fault: the number 0.
-fn no_fault() -> Fault
-    ensures { λ r. ⌜ r ≡ noFault ⌝ }
-{
-    Fault {
-        end: 0,
-        number: 0,
-        start: 0,
-    }
-}
-
-// Takes steps from a cursor on while it stands before `stop`: one step where `stop` is the next position, all of them where it is the text's end. The mode is kept beside the
+// Takes steps from a cursor on, where `top` is innermost, while it stands before `stop`: one step where `stop` is the next position, all of them where it is the text's end. The mode is kept beside the
 // cursor, so that the stack is read after a closer alone.
 pub(crate) fn run(
     doc: u32,
     text: &[u8],
     from: Cursor,
+    top: Opened,
     stop: usize,
     kinds: &mut [u8],
     words: &mut [u64],
     skinds: &mut [u8],
     swords: &mut [u64],
 ) -> Ran
-    requires { ⌜ CanRun (now text) from stop (now skinds) (now swords) ⌝ }
+    requires { ⌜ CanRun (now text) from stop (now skinds) (now swords) × topOf (from .depth) (now skinds) top ⌝ }
     ensures { λ r. ⌜ Runs doc (now (text .entry)) from stop (now (kinds .entry)) (now (words .entry)) (now (skinds .entry)) (now (swords .entry)) r (now (kinds .exit)) (now (words .exit)) (now (skinds .exit)) (now (swords .exit)) ⌝ }
 {
     let places = lent::places(kinds, words);
     let stack = lent::places(skinds, swords);
     let table = token::table();
-    let first = from.depth;
-    let mut mode = next::mode_of(lent::top_state(skinds, first));
+    let mut mode = next::mode_of(top);
     let mut cur = from;
-    let mut kind = 0;
+    let mut token = Token::Space;
     while cur.at < stop {
         let at = cur.at;
         let answer = next::next(&table, text, at, mode);
         let Step::Found(lexeme) = answer else {
-            return Ran {
-                cur: cur,
-                fault: fault_of(answer, at),
-                kind: 0,
-            };
+            return refused_step(answer, cur);
         };
         let end = lexeme.end;
-        kind = lexeme.kind;
+        let kind = lexeme.kind;
+        token = lexeme.token;
         if kind == 0 {
             cur = past_space(cur, end);
         } else {
-            let span = Span::pack(doc, at, end);
+            let span = pack(doc, at, end);
             let place = cur.lexemes;
             if token::opens(kind) {
-                let number = full(cur, stack, places);
-                if number != 0 {
-                    return no_room(cur, at, end, number);
-                }
                 let depth = cur.depth;
+                if stack <= depth {
+                    return no_room(cur, at, end, 30);
+                }
+                if places <= place {
+                    return no_room(cur, at, end, 31);
+                }
                 lent::put(kinds, words, place, kind, span);
                 lent::put(skinds, swords, depth, kind, span);
                 cur = past_opener(cur, kind, end);
-                mode = next::mode_of(token::state_of(kind));
+                mode = next::mode_of(token::opened_by(token));
             } else {
-                let number = list_full(cur, places);
-                if number != 0 {
-                    return no_room(cur, at, end, number);
+                if places <= place {
+                    return no_room(cur, at, end, 31);
                 }
                 lent::put(kinds, words, place, kind, span);
                 if token::closes(kind) {
@@ -311,16 +282,23 @@ pub(crate) fn run(
                     cur = past_other(cur, kind, end);
                     if lone_space(text, end, stop, mode) {
                         cur = past_space(cur, end + 1);
-                        kind = 0;
+                        token = Token::Space;
                     }
                 }
             }
         }
     }
-    Ran {
-        cur: cur,
-        fault: no_fault(),
-        kind: kind,
+    Ran::Reached(cur, token)
+}
+
+// The result where steps were refused.
+fn halted(doc: u32, ran: Ran, swords: &[u64]) -> Lexed
+    requires { ⌜ CanHalt ran (now swords) ⌝ }
+    ensures { λ r. ⌜ lexedMeant r ≡ haltedWith doc ran (now (swords .entry)) ⌝ }
+{
+    match ran {
+        Ran::Halted(cur, fault) => stopped(doc, fault, cur, swords),
+        Ran::Reached(cur, _) => result(Answer::Accepted, cur),
     }
 }
 
@@ -369,11 +347,20 @@ pub fn lex(
             swords,
         );
     }
-    let ran = run(doc, text, start, text.len(), kinds, words, skinds, swords);
-    let cur = ran.cur;
-    let fault = ran.fault;
-    if fault.number != 0 {
-        return stopped(doc, fault, cur, swords);
-    }
+    let nothing = Opened::NoOpener;
+    let ran = run(
+        doc,
+        text,
+        start,
+        nothing,
+        text.len(),
+        kinds,
+        words,
+        skinds,
+        swords,
+    );
+    let Ran::Reached(cur, _) = ran else {
+        return halted(doc, ran, swords);
+    };
     report_unclosed_delimiters(doc, cur, skinds, swords)
 }

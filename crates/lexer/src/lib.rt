@@ -18,15 +18,19 @@ pub use ident::is_keyword;
 pub use lexing::lex;
 pub use stepping::step_at;
 ghost use mathlib.Core.Path.{_≡_};
+ghost use Prim.Native.Nat.{_<_, _^_};
+ghost use Rattle.rules.specs.Spans.{span, low, high};
 ghost use Rattle.token.specs.Codes.{codeOf};
 ghost use Rattle.lexer.specs.Outcome.{lexemeTo, refusedAt, stepMeant};
 use source::Refusal;
+use source::Span;
 use token::Opened;
 use token::Token;
 
-// What a step found: where it ends, and its token's kind code. `end` comes first here and in a fault, so that both cases of a step share its place in memory.
-pub struct Lexeme {
+// What a step found: where it ends, its token, and the token's kind code. `end` comes first here and in a fault, so that both cases of a step share its place in memory.
+pub struct Match {
     pub end: usize,
+    pub token: Token,
     pub kind: u8,
 }
 
@@ -38,7 +42,7 @@ pub struct Fault {
 }
 
 pub enum Step {
-    Found(Lexeme),
+    Found(Match),
     Refused(Fault),
 }
 
@@ -59,11 +63,31 @@ pub struct Cursor {
     pub deepest: usize,
 }
 
-// Where steps came to: the fault that ended them, its number 0 where there was none, and the last lexeme's kind.
-pub struct Ran {
-    pub cur: Cursor,
-    pub fault: Fault,
+// Where steps came to: to the position where they were to end, with the last one's token, or to a step that was refused.
+pub enum Ran {
+    Reached(Cursor, Token),
+    Halted(Cursor, Fault),
+}
+
+// A lexeme: its token, the token's kind code, so that nobody has to look it up, and its span.
+pub struct Lexeme {
+    pub token: Token,
     pub kind: u8,
+    pub at: Span,
+}
+
+// What a single step answers: a lexeme, a Space included; that the text has ended; or a refusal.
+pub enum StepAnswer {
+    Lexeme(Lexeme),
+    Ended,
+    Refused(Refusal),
+}
+
+// A single step's answer, and the position and depth after it.
+pub struct Stepped {
+    pub answer: StepAnswer,
+    pub position: usize,
+    pub depth: usize,
 }
 
 pub enum Answer {
@@ -86,8 +110,9 @@ pub(crate) fn found(end: usize, token: Token, kind: u8) -> Step
     requires { ⌜ kind ≡ codeOf token ⌝ }
     ensures { λ r. ⌜ stepMeant r ≡ lexemeTo (codeOf token) end ⌝ }
 {
-    Step::Found(Lexeme {
+    Step::Found(Match {
         end: end,
+        token: token,
         kind: kind,
     })
 }
@@ -100,4 +125,17 @@ pub(crate) fn refused(number: u8, start: usize, end: usize) -> Step
         number: number,
         start: start,
     })
+}
+
+// The span of two offsets within the limit: no test, since the loop makes one for each lexeme.
+pub(crate) fn pack(doc: u32, start: usize, end: usize) -> Span
+    requires { ⌜ (start < 2 ^ 48) × (end < 2 ^ 48) ⌝ }
+    ensures { λ r. ⌜ (r .low ≡ low (span doc start end)) × (r .high ≡ high (span doc start end)) ⌝ }
+{
+    let s = start as u64;
+    let e = end as u64;
+    Span {
+        low: s + e % 0x1_0000 * 0x1_0000_0000_0000,
+        high: e / 0x1_0000 + (doc as u64) * 0x1_0000_0000,
+    }
 }

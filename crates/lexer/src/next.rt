@@ -1,3 +1,8 @@
+// RCL -- A reasonable configuration language.
+// Copyright 2023 Ruud van Asseldonk
+// Licensed under the Apache License, Version 2.0 (the "License"): see NOTICE.
+// From src/lexer.rs of RCL, changed: the class of the first byte decides, and what the innermost opener makes of a step is passed in.
+
 // One step: in a string, or outside by the class of the first byte.
 ghost use mathlib.Core.Path.{_≡_};
 ghost use mathlib.Core.Bool.{cond};

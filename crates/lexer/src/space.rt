@@ -1,3 +1,8 @@
+// RCL -- A reasonable configuration language.
+// Copyright 2023 Ruud van Asseldonk
+// Licensed under the Apache License, Version 2.0 (the "License"): see NOTICE.
+// From src/lexer.rs of RCL, changed: line ends are counted while the run is measured.
+
 // Whitespace.
 ghost use mathlib.Core.Path.{_≡_};
 ghost use lib.ListN.{drop};

@@ -1,38 +1,104 @@
-// One step at a position, for those who keep their own place: the step that `lex` takes.
+// One step at a position, given a stack: a turn of the loop of `lex`.
 ghost use mathlib.Core.Path.{_≡_};
-ghost use mathlib.Core.Bool.{cond};
-ghost use Rattle.rules.specs.Kinds.{isOpener};
-ghost use Rattle.lexer.specs.Outcome.{stepMeant, steppedAt};
+ghost use Rattle.rules.specs.Walker.{nothing};
+ghost use Rattle.source.specs.Meaning.{noteMeant, spanMeant};
+ghost use Rattle.list.specs.Entries.{entryMeant};
+ghost use Rattle.lexer.specs.Stepping.{answerMeant, steppedBy, walkerAt, Walks, topOf, astrayBy, noteBy, endBy, haltedBy, StepsOn, CanStep, CanPack};
 use crate::Cursor;
 use crate::Lexeme;
-use crate::Step;
+use crate::Ran;
+use crate::StepAnswer;
+use crate::Stepped;
 use crate::lexing;
-use crate::refused;
+use crate::pack;
+use list::Entry;
+use source::Note;
+use source::Refusal;
+use source::Span;
 
-// 1 where a code is an opener's, else 0.
-fn opened(kind: u8) -> usize
-    ensures { λ r. ⌜ r ≡ cond (isOpener kind) 1 0 ⌝ }
+// The innermost opener; where nothing is open, a Space at 0-0.
+fn top(skinds: &[u8], swords: &[u64], depth: usize) -> Entry
+    ensures { λ r. ⌜ entryMeant r ≡ topOf depth (now (skinds .entry)) (now (swords .entry)) ⌝ }
 {
-    if token::opens(kind) {
-        return 1;
+    if depth == 0 {
+        return Entry {
+            kind: 0,
+            at: Span { low: 0, high: 0 },
+        };
     }
-    0
+    list::get(skinds, swords, depth - 1)
 }
 
-// A text over the limit is refused with 2, a position at its end or past it with 40, both at 0-0. An innermost code that is no opener's stands for nothing open.
-// The list has room for one lexeme, the stack for the innermost opener and one more.
-pub fn step_at(text: &[u8], at: usize, innermost: u8) -> Step
-    ensures { λ r. ⌜ stepMeant r ≡ steppedAt (now (text .entry)) at innermost ⌝ }
+// Whether the position is past the end, the depth above the places, or the innermost code no opener's.
+fn astray(text: &[u8], position: usize, depth: usize, places: usize, kind: u8) -> bool
+    ensures { λ r. ⌜ r ≡ astrayBy (now (text .entry)) position depth places kind ⌝ }
 {
-    if 0xffff_ffff_ffff < text.len() {
-        return refused(2, 0, 0);
+    let other = !token::opens(kind);
+    (text.len() < position) | (places < depth) | (depth != 0) & other
+}
+
+// Refusals 24 to 28 note the innermost opener.
+fn note_of(number: u8, depth: usize, opener: Entry) -> Note
+    ensures { λ r. ⌜ noteMeant r ≡ noteBy number depth (entryMeant opener) ⌝ }
+{
+    if (depth != 0) & ((24 <= number) & (number <= 28)) {
+        let at = opener.at;
+        return Note::At(at);
     }
-    if text.len() <= at {
-        return refused(40, 0, 0);
+    Note::None
+}
+
+// The answer at the text's end: 25 to 28 where something is open.
+fn at_end(at: Span, depth: usize, opener: Entry) -> StepAnswer
+    ensures { λ r. ⌜ answerMeant r ≡ endBy (spanMeant at) depth (entryMeant opener) ⌝ }
+{
+    if depth == 0 {
+        return StepAnswer::Ended;
     }
-    let depth = opened(innermost);
-    let from = Cursor {
+    let number = token::unclosed_number(opener.kind);
+    let noted = opener.at;
+    StepAnswer::Refused(Refusal {
+        number: number,
         at: at,
+        note: Note::At(noted),
+    })
+}
+
+// The answer where the step was refused.
+fn refused_step(doc: u32, ran: Ran, depth: usize, opener: Entry) -> StepAnswer
+    requires { ⌜ CanPack ran ⌝ }
+    ensures { λ r. ⌜ answerMeant r ≡ haltedBy doc ran depth (entryMeant opener) ⌝ }
+{
+    match ran {
+        Ran::Halted(_, fault) => {
+            let number = fault.number;
+            let at = pack(doc, fault.start, fault.end);
+            let note = note_of(number, depth, opener);
+            StepAnswer::Refused(Refusal {
+                number: number,
+                at: at,
+                note: note,
+            })
+        }
+        Ran::Reached(_, _) => StepAnswer::Ended,
+    }
+}
+
+// The step that begins at a position in the text, with a list of one place.
+fn step_on(
+    doc: u32,
+    text: &[u8],
+    position: usize,
+    depth: usize,
+    opener: Entry,
+    skinds: &mut [u8],
+    swords: &mut [u64],
+) -> Stepped
+    requires { ⌜ CanStep (now text) position depth (entryMeant opener) (now skinds) (now swords) ⌝ }
+    ensures { λ r. ⌜ StepsOn doc (now (text .entry)) position depth (entryMeant opener) (now (skinds .entry)) (now (swords .entry)) r (now (skinds .exit)) (now (swords .exit)) ⌝ }
+{
+    let from = Cursor {
+        at: position,
         depth: depth,
         lexemes: 0,
         spaces: 0,
@@ -41,26 +107,75 @@ pub fn step_at(text: &[u8], at: usize, innermost: u8) -> Step
     };
     let mut kinds = [0u8; 1];
     let mut words = [0u64; 2];
-    let mut skinds = [0u8; 2];
-    skinds[0] = innermost;
-    let mut swords = [0u64; 4];
+    let opened = token::state_of(opener.kind);
     let ran = lexing::run(
-        0,
+        doc,
         text,
         from,
-        at + 1,
+        opened,
+        position + 1,
         &mut kinds,
         &mut words,
-        &mut skinds,
-        &mut swords,
+        skinds,
+        swords,
     );
-    let fault = ran.fault;
-    if fault.number != 0 {
-        return Step::Refused(fault);
+    let Ran::Reached(cur, token) = ran else {
+        return Stepped {
+            answer: refused_step(doc, ran, depth, opener),
+            position: position,
+            depth: depth,
+        };
+    };
+    let end = cur.at;
+    let at = pack(doc, position, end);
+    let lexeme = Lexeme {
+        token: token,
+        kind: kinds[0],
+        at: at,
+    };
+    Stepped {
+        answer: StepAnswer::Lexeme(lexeme),
+        position: end,
+        depth: cur.depth,
     }
-    let cur = ran.cur;
-    Step::Found(Lexeme {
-        end: cur.at,
-        kind: ran.kind,
-    })
+}
+
+// The walker stays where it is.
+fn stays(answer: StepAnswer, position: usize, depth: usize) -> Stepped
+    ensures { λ r. ⌜ r ≡ steppedBy answer position depth ⌝ }
+{
+    Stepped {
+        answer: answer,
+        position: position,
+        depth: depth,
+    }
+}
+
+// One step: "a step gives 2, then 40 with 0-0", then the end or a step in the text.
+pub fn step_at(
+    doc: u32,
+    text: &[u8],
+    position: usize,
+    depth: usize,
+    skinds: &mut [u8],
+    swords: &mut [u64],
+) -> Stepped
+    ensures { λ r. ⌜ Walks (now (text .entry)) (walkerAt doc position depth nothing) (now (skinds .entry)) (now (swords .entry)) r (now (skinds .exit)) (now (swords .exit)) ⌝ }
+{
+    let start = pack(doc, 0, 0);
+    if 0xffff_ffff_ffff < text.len() {
+        let long = source::refuse(2, start);
+        return stays(StepAnswer::Refused(long), position, depth);
+    }
+    let places = list::places(skinds, swords);
+    let opener = top(skinds, swords, depth);
+    if astray(text, position, depth, places, opener.kind) {
+        let wrong = source::refuse(40, start);
+        return stays(StepAnswer::Refused(wrong), position, depth);
+    }
+    if text.len() <= position {
+        let at = pack(doc, position, position);
+        return stays(at_end(at, depth, opener), position, depth);
+    }
+    step_on(doc, text, position, depth, opener, skinds, swords)
 }

@@ -1,1 +1,2 @@
 pub mod Noteless
+pub mod Telling

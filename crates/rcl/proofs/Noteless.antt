@@ -1,4 +1,4 @@
--- Only lexing gives notes: an answer about a string, and what a walker keeps of its opening, is the same without one.
+-- Only lexing gives notes: an answer about a string is the same without one.
 use Prim.Native.Nat.{ℕ, zero, suc, _+_}
 use mathlib.Core.Path.{_≡_, refl, ap}
 use mathlib.Core.Bool.{Bool, true, false, cond}
@@ -6,8 +6,8 @@ use mathlib.Core.List.{List, [], _∷_, _++_}
 use mathlib.Core.Option.{Option, none, some}
 use lib.Dec.{leb, ltb}
 use lib.ListN.{length, take}
-use Rattle.rules.specs.Utf8.{encode, firstBad}
-use Rattle.rules.specs.Refusals.{TooLong, BadSpan, ListFull, OutputFull, NoString}
+use Rattle.rules.specs.Utf8.{encode}
+use Rattle.rules.specs.Refusals.{BadSpan, ListFull, OutputFull, NoString}
 use Rattle.rules.specs.Spans.{Span, span, limit, nowhere, Refusal, Answer, given, refused, refuse, isBad, resolved, Verdict, accepted}
 use Rattle.rules.specs.Kinds.{isQuoteOpen, isEscape}
 use Rattle.rules.specs.Lexing.{Lexeme, placesOf, lexemesIn}
@@ -16,9 +16,7 @@ use Rattle.rules.specs.Escapes.{singleScalar, unicodeScalar, scalarOf, escapeSc
 use Rattle.rules.specs.Parts.{Turn, closes, refuses, passes, yields, Parts, noParts, followTurn, turn, partsFrom, partsOf, inRoom, lexemesFrom, partsIn, partsCall}
 use Rattle.rules.specs.Indent.{andThen, firstRefusal, partVerdict, indentOf, indentCall}
 use Rattle.rules.specs.Value.{valueChunks, isUnbroken, Where, inText, inOutput, textPart, outputPart, Valued, unlessRefused, escapeVerdict, valueWritten, kindOfFirst, indentTaken, valueOf, valueCall, handedPart, handCheck}
-use Rattle.rules.specs.Walker.{unmarked, badAt, opening}
 use Rattle.rcl.specs.Strings.{withoutNote}
-use Rattle.rcl.specs.Walked.{withoutKeptNote}
 
 -- an answer whose refusal has no note
 pub record Noteless {A : Type 0} (a : Answer A) : Type 0 where
@@ -195,16 +193,3 @@ note-handed text out (inOutput a e) = note-resolved out (span 0 a e)
 
 pub note-hand : (text out : List ℕ) (p : Where) → Noteless (handCheck text out p)
 note-hand text out p = note-verdict (handedPart text out p) (note-handed text out p)
-
--- opening a walker
-note-kept-cond : (b : Bool) (x y : Option Refusal) → withoutKeptNote x ≡ x → withoutKeptNote y ≡ y → withoutKeptNote (cond b x y) ≡ cond b x y
-note-kept-cond true x y p q = p
-note-kept-cond false x y p q = q
-
-note-bad : (doc : ℕ) (o : Option ℕ) → withoutKeptNote (badAt doc o) ≡ badAt doc o
-note-bad doc none = refl
-note-bad doc (some at) = refl
-
-pub note-opening : (doc : ℕ) (text : List ℕ) → withoutKeptNote (opening doc text .refusal) ≡ opening doc text .refusal
-unfolding opening
-note-opening doc text = note-kept-cond (ltb limit (length text)) (unmarked TooLong (span doc 0 0)) (badAt doc (firstBad text)) refl (note-bad doc (firstBad text))

@@ -24,6 +24,7 @@ use lexer::Answer;
 use lexer::Lexed;
 use source::Note;
 use utf8::Checked;
+use walker::Kept;
 
 // Where the first bad sequence begins, or 2^64 − 1 where the text is UTF-8.
 #[no_mangle]
@@ -68,6 +69,12 @@ pub struct KeptWords {
     pub number: u64,
     pub low: u64,
     pub high: u64,
+}
+
+// What words tell that a walker keeps; wrong where no walker of the document keeps anything of the kind.
+pub enum Told {
+    Kept(Kept),
+    Wrong,
 }
 
 // A walker's step in words: 0 for a lexeme, 1 for the end, 2 for a refusal; the kind or the number, the span, whether there is a note and its span; where the walker then stands.

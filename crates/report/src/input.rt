@@ -1,24 +1,34 @@
-// Standard input, and what is said of one that cannot be used.
-use crate::print::print_refusal;
-use libc::STDERR_FILENO;
+// Standard input.
+ghost use Rattle.report.specs.Within.{Within};
 use libc::STDIN_FILENO;
 
-// Whether standard input has ended. `io::read_full` stops where a read fails as it does at the end, and a text that was cut there must not be taken for a whole one: so one more
-// byte is asked for.
-fn has_ended() -> bool {
-    let mut byte = [0u8; 1];
-    libc::read(STDIN_FILENO, &mut byte) == 0
+// What came of reading.
+pub(crate) enum Input {
+    // The text has ended: so many bytes.
+    Ended(usize),
+    // The room is full, which has a byte more than the longest text.
+    Over,
+    // A read failed. What was read before it is no whole text.
+    Failed,
 }
 
-// Whether the `n` bytes that were read are a whole text within the limit. Of a text over it refusal 2 is printed, at 0-0; that one could not be read is told on standard error.
-pub(crate) fn is_whole(n: usize, limit: usize) -> bool {
-    if limit < n {
-        print_refusal(source::refuse(2, source::nowhere()));
-        return false;
+// Reads standard input to its end. `io::read_full` stops where a read fails as it does at the end, and a read after that may say that the input has ended (a connection that was reset does), so
+// each answer is looked at here.
+pub(crate) fn read_text(room: &mut [u8]) -> Input
+    ensures { λ r. ⌜ Within r (now (room .exit)) ⌝ }
+{
+    let mut done: usize = 0;
+    while done < room.len() {
+        let got = libc::read(STDIN_FILENO, &mut room[done..]);
+        if got == 0 {
+            return Input::Ended(done);
+        }
+        // An answer below 0 counts no byte.
+        let more = io::count(got, &room[done..]);
+        if more == 0 {
+            return Input::Failed;
+        }
+        done += more;
     }
-    if has_ended() {
-        return true;
-    }
-    io::write_all(STDERR_FILENO, b"standard input could not be read\n");
-    false
+    Input::Over
 }

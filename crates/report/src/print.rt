@@ -1,50 +1,64 @@
-// Numbers, offsets and refusals on standard output.
-use libc::STDOUT_FILENO;
+// Numbers and refusals, written to a descriptor `to`, and what is told where something cannot be read or written. Each function that writes a piece of an answer says whether it could; after one
+// that could not, nothing more of the answer is written.
+use libc::STDERR_FILENO;
 use source::Note;
 use source::Refusal;
 use source::Span;
 
-// A number in decimal.
-pub(crate) fn print_number(n: u64) {
-    io::print_decimal(STDOUT_FILENO, n);
-}
-
 // A number in decimal, a space before it.
-pub(crate) fn print_next(n: u64) {
-    io::write_all(STDOUT_FILENO, b" ");
-    print_number(n);
+pub(crate) fn print_next(to: i32, n: u64) -> bool {
+    io::write_all(to, b" ") && io::print_decimal(to, n)
 }
 
-pub(crate) fn end_line() {
-    io::write_all(STDOUT_FILENO, b"\n");
+pub(crate) fn end_line(to: i32) -> bool {
+    io::write_all(to, b"\n")
 }
 
-// A space before every entry of a line but the first.
-pub(crate) fn separate(place: usize) {
-    if 0 < place {
-        io::write_all(STDOUT_FILENO, b" ");
-    }
+fn print_offsets(to: i32, span: Span) -> bool {
+    print_next(to, span.start() as u64) && print_next(to, span.end() as u64)
 }
 
-fn print_offsets(span: Span) {
-    print_next(span.start() as u64);
-    print_next(span.end() as u64);
-}
-
-fn print_note(note: Note) {
+fn print_note(to: i32, note: Note) -> bool {
     let Note::At(opener) = note else {
-        return;
+        return true;
     };
-    print_offsets(opener);
+    print_offsets(to, opener)
 }
 
 // "A refusal prints `refused`, number, start, end, and note start and end if any, on one line with single spaces."
-pub(crate) fn print_refusal(refusal: Refusal) {
-    io::write_all(STDOUT_FILENO, b"refused");
-    print_next(refusal.number as u64);
+fn print_refusal(to: i32, refusal: Refusal) -> bool {
     let at = refusal.at;
-    print_offsets(at);
     let note = refusal.note;
-    print_note(note);
-    end_line();
+    io::write_all(to, b"refused")
+        && print_next(to, refusal.number as u64)
+        && print_offsets(to, at)
+        && print_note(to, note)
+        && end_line(to)
+}
+
+// A message. Where standard error fails too there is no place left to say so.
+fn tell(message: &[u8]) {
+    io::write_all(STDERR_FILENO, message);
+}
+
+pub(crate) fn tell_unread() {
+    tell(b"standard input could not be read\n");
+}
+
+// The end of an answer. A file on another machine may be full and say so only when it is closed.
+pub(crate) fn finish(to: i32, written: bool) {
+    if written && libc::close(to) == 0 {
+        return;
+    }
+    tell(b"the answer could not be written\n");
+}
+
+// The refusal's line, as the whole answer.
+pub(crate) fn refuse(to: i32, refusal: Refusal) {
+    finish(to, print_refusal(to, refusal));
+}
+
+// Of a text over the program's limit: refusal 2, at 0-0.
+pub(crate) fn refuse_over(to: i32) {
+    refuse(to, source::refuse(2, source::nowhere()));
 }

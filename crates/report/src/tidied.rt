@@ -3,9 +3,9 @@
 ghost use mathlib.Core.Path.{_≡_};
 ghost use lib.ListN.{length};
 use crate::input;
+use crate::input::Input;
 use crate::print;
 use lexer::Answer;
-use libc::STDIN_FILENO;
 use libc::STDOUT_FILENO;
 
 // Room for the longest text and a byte more, by which a longer one is known. Of this and the rooms below only the length is said, so that nothing computes with so many places.
@@ -29,14 +29,15 @@ fn output_room() -> [u8; 131072]
 }
 
 // The first bytes of an output; none where it has fewer.
-fn print_first(output: &[u8], bytes: usize) {
+fn print_first(output: &[u8], bytes: usize) -> bool {
     if bytes <= output.len() {
-        io::write_all(STDOUT_FILENO, &output[..bytes]);
+        return io::write_all(STDOUT_FILENO, &output[..bytes]);
     }
+    false
 }
 
 // Tidies a text and prints what comes of it.
-fn tidy_text(text: &[u8]) {
+fn tidy_text(text: &[u8], refusals: i32) {
     let mut kinds = io::large_buffer();
     let mut words = words_room();
     let mut skinds = io::large_buffer();
@@ -54,16 +55,20 @@ fn tidy_text(text: &[u8]) {
     let lexed = tidied.lexed;
     let answer = lexed.answer;
     match answer {
-        Answer::Accepted => print_first(&output, tidied.written),
-        Answer::Refused(refusal) => print::print_refusal(refusal),
+        Answer::Accepted => {
+            print::finish(STDOUT_FILENO, print_first(&output, tidied.written));
+        }
+        Answer::Refused(refusal) => print::refuse(refusals, refusal),
     }
 }
 
-// The tidied text of standard input and nothing after it, or the refusal's line.
-pub fn print_tidied() {
+// The tidied text of standard input and nothing after it, on standard output; or the refusal's line, on the descriptor `refusals`.
+pub fn print_tidied(refusals: i32) {
     let mut text = text_room();
-    let n = io::read_full(STDIN_FILENO, &mut text);
-    if input::is_whole(n, 65536) {
-        tidy_text(&text[..n]);
+    let input = input::read_text(&mut text);
+    match input {
+        Input::Ended(n) => tidy_text(&text[..n], refusals),
+        Input::Over => print::refuse_over(refusals),
+        Input::Failed => print::tell_unread(),
     }
 }

@@ -44,11 +44,13 @@ valueBytes text =
 pub record MarkedPairs (doc : ℕ) : Type 0 where
   -- (a) empty text: accepted, all counts 0
   pub a : lexed doc [] ≡ record { verdict = accepted; lexemes = 0; steps = 0; kept = 0; dropped = 0; deepest = 0 }
-  -- (b) `01`: decimals 0-1, 1-2
+  -- (b) `01`: accepted; decimals 0-1, 1-2
+  pub b-accepted : lexed doc (ascii "01") .verdict ≡ accepted
   pub b : listed doc (ascii "01") ≡ lexeme NumDecimal (span doc 0 1) ∷ lexeme NumDecimal (span doc 1 2) ∷ []
   -- (c) `1..2`: 16 at 1-2
   pub c : lexed doc (ascii "1..2") .verdict ≡ refuse NoFractionDigit (span doc 1 2)
-  -- (d) `x-->y`: Ident, Minus, ThinArrow, Ident
+  -- (d) `x-->y`: accepted; Ident, Minus, ThinArrow, Ident
+  pub d-accepted : lexed doc (ascii "x-->y") .verdict ≡ accepted
   pub d : kindsIn (listed doc (ascii "x-->y")) ≡ Ident ∷ Minus ∷ ThinArrow ∷ Ident ∷ []
   -- (e) `1e+`: 17 at 3-3
   pub e : lexed doc (ascii "1e+") .verdict ≡ refuse NoExponentDigit (span doc 3 3)
@@ -76,8 +78,10 @@ pub marked : (doc : ℕ) → MarkedPairs doc
 unfolding computes
 marked doc = record {
   a = refl;
+  b-accepted = refl;
   b = refl;
   c = refl;
+  d-accepted = refl;
   d = refl;
   e = refl;
   f = refl;

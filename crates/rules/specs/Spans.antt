@@ -2,10 +2,11 @@
 use Prim.Native.Nat.{ℕ, _+_, _-_, _*_, _/_, _%_, _^_, min, max}
 use mathlib.Core.List.{List}
 use mathlib.Core.Bool.{Bool, cond, _||_}
-use mathlib.Core.Option.{Option, none}
+use mathlib.Core.Option.{Option, none, some}
 use lib.Dec.{leb, ltb, eqb}
 use lib.ListN.{take, drop, length}
-use Rattle.rules.specs.Refusals.{BadSpan, WrongForm}
+use Rattle.rules.specs.Utf8.{firstBad}
+use Rattle.rules.specs.Refusals.{NotUtf8, BadSpan, WrongForm}
 
 pub record Span : Type 0 where
   pub doc : ℕ
@@ -105,3 +106,12 @@ bytesAt text s = bytesFrom text (s .start) (s .end)
 -- "span outside the text" is 40
 unfoldable pub resolved : List ℕ → Span → Answer (List ℕ)
 resolved text s = unlessBad s (cond (leb (s .end) (length text)) (given (bytesAt text s)) (refuse WrongForm s))
+
+-- refusal 1, where a bad sequence begins: "empty span where the first bad sequence begins"
+abbrev pub notUtf8At : (doc : ℕ) → Option ℕ → Verdict
+notUtf8At doc none = accepted
+notUtf8At doc (some at) = refuse NotUtf8 (span doc at at)
+
+-- "not UTF-8 by RFC 3629"
+abbrev pub utf8Verdict : (doc : ℕ) → List ℕ → Verdict
+utf8Verdict doc text = notUtf8At doc (firstBad text)

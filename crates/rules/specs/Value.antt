@@ -130,7 +130,10 @@ orEmpty (refused r) = []
 abbrev pub handed : (text out : List ℕ) → Where → List ℕ
 handed text out p = orEmpty (handedPart text out p)
 
--- what the check says and the handing call returns
-pub record HandsBack (text out : List ℕ) (p : Where) (verdict : Verdict) (bytes : List ℕ) : Type 0 where
-  pub checked : verdict ≡ handCheck text out p
-  pub returned : bytes ≡ handed text out p
+-- what the check answers
+abbrev pub ChecksPart : (text out : List ℕ) → Where → Verdict → Type 0
+ChecksPart text out p verdict = verdict ≡ handCheck text out p
+
+-- what the handing call returns
+abbrev pub HandsBack : (text out : List ℕ) → Where → (bytes : List ℕ) → Type 0
+HandsBack text out p bytes = bytes ≡ handed text out p

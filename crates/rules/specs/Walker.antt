@@ -7,33 +7,43 @@ use lib.Dec.{leb, ltb, eqb}
 use lib.ListN.{take, drop, length, set}
 use Rattle.rules.specs.Utf8.{firstBad}
 use Rattle.rules.specs.Refusals.{NotUtf8, TooLong, StackFull, WrongForm}
-use Rattle.rules.specs.Spans.{Span, span, low, high, limit, Refusal, Answer, given, refused, refuse, Verdict}
+use Rattle.rules.specs.Spans.{Span, span, low, high, limit, Refusal, refusal, Answer, given, refused, refuse, Verdict}
 use Rattle.rules.specs.Kinds.{isOpener}
 use Rattle.rules.specs.Step.{Step, found, stop, step}
 use Rattle.rules.specs.Lexing.{stopped, Lexeme, lexeme, atEnd, innermost, depthAfter, verdictOf, placesOf, lexemesIn}
 
--- what a walker has beside the text that it borrows: its document id, position and depth, and a refusal met at its opening
+-- "keeps a refusal 2 or 1 met there": what a walker keeps from its opening
+pub data Kept : Type 0 where
+  nothing : Kept
+  tooLong : Kept
+  notUtf8 : (at : ℕ) → Kept
+
+-- what a walker has beside the text that it borrows: its document id, position and depth, and what it keeps from its opening
 pub record Walker : Type 0 where
   pub doc : ℕ
   pub at : ℕ
   pub depth : ℕ
-  pub refusal : Option Refusal
+  pub kept : Kept
 
-abbrev pub unmarked : (number : ℕ) → Span → Option Refusal
-unmarked n s = some (record { number = n; at = s; note = none })
+abbrev pub badAt : Option ℕ → Kept
+badAt none = nothing
+badAt (some at) = notUtf8 at
 
-abbrev pub badAt : (doc : ℕ) → Option ℕ → Option Refusal
-badAt doc none = none
-badAt doc (some at) = unmarked NotUtf8 (span doc at at)
+abbrev pub keptOf : List ℕ → Kept
+keptOf text = cond (ltb limit (length text)) tooLong (badAt (firstBad text))
 
--- "keeps a refusal 2 or 1 met there"
 unfoldable pub opening : (doc : ℕ) → List ℕ → Walker
-opening doc text = record {
-  doc = doc;
-  at = 0;
-  depth = 0;
-  refusal = cond (ltb limit (length text)) (unmarked TooLong (span doc 0 0)) (badAt doc (firstBad text));
-}
+opening doc text = record { doc = doc; at = 0; depth = 0; kept = keptOf text }
+
+-- refusal 1 at a position; 40 where no span can have it, which no opening keeps
+unfoldable pub keptBad : (doc at : ℕ) → Refusal
+keptBad doc at = cond (leb at limit) (refusal NotUtf8 (span doc at at)) (refusal WrongForm (span doc 0 0))
+
+-- the refusal that is kept
+abbrev pub keptRefusal : (doc : ℕ) → Kept → Option Refusal
+keptRefusal doc nothing = none
+keptRefusal doc tooLong = some (refusal TooLong (span doc 0 0))
+keptRefusal doc (notUtf8 at) = some (keptBad doc at)
 
 -- a step's answer: a lexeme, "a Space included"; or none, "ended"
 pub record Walked : Type 0 where
@@ -71,7 +81,7 @@ module _ (text : List ℕ) (w : Walker) (ks ws : List ℕ) where
   abbrev pub goes : Lexeme → Walked
   goes l = record {
     answer = given (some l);
-    walker = record { doc = w .doc; at = l .at .end; depth = depthAfter (w .depth) (l .kind); refusal = w .refusal };
+    walker = record { doc = w .doc; at = l .at .end; depth = depthAfter (w .depth) (l .kind); kept = w .kept };
     kinds = kindsPut (w .depth) l ks;
     words = wordsPut (w .depth) l ws;
   }
@@ -102,4 +112,4 @@ module _ (text : List ℕ) (w : Walker) (ks ws : List ℕ) where
 
 -- one step of a walker over its text, with a stack in two arrays
 unfoldable pub walking : (text : List ℕ) → Walker → (kinds words : List ℕ) → Walked
-walking text w ks ws = walkedFresh text w ks ws (w .refusal)
+walking text w ks ws = walkedFresh text w ks ws (keptRefusal (w .doc) (w .kept))

@@ -1,9 +1,10 @@
 -- What the code's answers mean: the paper's number and values for each case.
-use Prim.Native.Nat.{ℕ}
+use Prim.Native.Nat.{ℕ, _+_}
 use mathlib.Core.List.{List}
 use mathlib.Core.Option.{Option, none, some}
+use denote.Ref.{RefT, ptr, now}
 use Rattle.rules.specs.Refusals.{BadSpan, WrongForm}
-use Rattle.rules.specs.Spans.{Span as SpanRule, spanOf, nowhere, bytesAt, Refusal as RefusalRule, Answer, given, refused, refuse}
+use Rattle.rules.specs.Spans.{Span as SpanRule, spanOf, nowhere, bytesAt, Refusal as RefusalRule, Answer, given, refused, refuse, resolved}
 use Rattle.source.specs.declared.Span.{Span}
 use Rattle.source.specs.declared.Note.{Note}
 use Rattle.source.specs.declared.Note.the-variants.{None, At}
@@ -44,3 +45,16 @@ insideMeant (Outside at) text s = refuse WrongForm (spanOf (at .low) (at .high))
 abbrev pub partOf : Answer (List ℕ) → List ℕ
 partOf (given w) = w
 partOf (refused r) = mathlib.Core.List.List.[]
+
+-- an address, a block of memory and an offset in it, moved on by so many bytes
+abbrev pub moved : (bytes : ℕ) → ℕ × ℕ → ℕ × ℕ
+moved n p = (p .0, n + p .1)
+
+-- where the part that a span names stands, of a text at this address: at its start; at the text's start where the span is refused
+abbrev pub partAt : (text : ℕ × ℕ) → Answer (List ℕ) → SpanRule → ℕ × ℕ
+partAt text (given w) s = moved (s .start) text
+partAt text (refused r) s = text
+
+-- the address of what is handed out
+abbrev pub resolvedAt : (text : RefT (List ℕ)) → SpanRule → ℕ × ℕ
+resolvedAt text s = partAt (ptr text) (resolved (now text) s) s

@@ -5,11 +5,12 @@
 
 // Types for dealing with input source code.
 ghost use mathlib.Core.Path.{_≡_};
-ghost use Prim.Native.Nat.{min, max, _%_, _^_};
+ghost use Prim.Native.Nat.{min, max, _^_, _<_};
 ghost use mathlib.Core.Bool.{not, _&&_};
 ghost use lib.Dec.{eqb};
+ghost use denote.Ref.{ptr};
 ghost use Rattle.rules.specs.Spans.{span, nowhere as nowhereRule, refusal, isBad, newSpan, lenOf, trimStart, trimEnd, untilOf, unionOf, resolved};
-ghost use Rattle.source.specs.Meaning.{spanMeant, refusalMeant, spannedMeant, lengthMeant, insideMeant, partOf};
+ghost use Rattle.source.specs.Meaning.{spanMeant, refusalMeant, spannedMeant, lengthMeant, insideMeant, partOf, resolvedAt};
 
 // Marks a location in a source file by byte offset. Packed, from the least significant bit: 48 bits start offset, 48 bits end offset, 32 bits document id.
 pub struct Span {
@@ -55,6 +56,13 @@ pub fn nowhere() -> Span
     Span { low: 0, high: 0 }
 }
 
+// "Spans of a lexing call carry its document id, 0-0 too"
+pub fn start_of(doc: u32) -> Span
+    ensures { λ r. ⌜ spanMeant r ≡ span doc 0 0 ⌝ }
+{
+    Span::pack(doc, 0, 0)
+}
+
 // A refusal without a note.
 pub fn refuse(number: u8, at: Span) -> Refusal
     ensures { λ r. ⌜ refusalMeant r ≡ refusal number (spanMeant at) ⌝ }
@@ -79,12 +87,13 @@ impl Span {
         Spanned::Made(Span::pack(doc, start, end))
     }
 
-    // The span of the low 48 bits of two offsets: for offsets within the limit, the span that they name.
-    pub fn pack(doc: u32, start: usize, end: usize) -> Span
-        ensures { λ r. ⌜ spanMeant r ≡ span doc (start % 2 ^ 48) (end % 2 ^ 48) ⌝ }
+    // The span of two offsets that are known to be within the limit.
+    fn pack(doc: u32, start: usize, end: usize) -> Span
+        requires { ⌜ (start < 2 ^ 48) × (end < 2 ^ 48) ⌝ }
+        ensures { λ r. ⌜ spanMeant r ≡ span doc start end ⌝ }
     {
-        let s = (start as u64) % 0x1_0000_0000_0000;
-        let e = (end as u64) % 0x1_0000_0000_0000;
+        let s = start as u64;
+        let e = end as u64;
         Span {
             low: s + e % 0x1_0000 * 0x1_0000_0000_0000,
             high: e / 0x1_0000 + (doc as u64) * 0x1_0000_0000,
@@ -208,17 +217,19 @@ impl Span {
     }
 }
 
-// The part of a text that a span names; the text's empty start where `inside` refuses.
+// The part of a text that a span names, at its place; the text's empty start where `inside` refuses.
 pub fn resolve(text: &[u8], span: Span) -> &[u8]
     ensures { λ r. ⌜ now r ≡ partOf (resolved (now (text .entry)) (spanMeant span)) ⌝ }
+    ensures { λ r. ⌜ ptr r ≡ resolvedAt (text .entry) (spanMeant span) ⌝ }
 {
     let s = span.start();
     let e = span.end();
+    let none = 0;
     if e < s {
-        return &text[..0];
+        return &text[none..none];
     }
     if text.len() < e {
-        return &text[..0];
+        return &text[none..none];
     }
     &text[s..e]
 }

@@ -1,3 +1,8 @@
+// RCL -- A reasonable configuration language.
+// Copyright 2023 Ruud van Asseldonk
+// Licensed under the Apache License, Version 2.0 (the "License"): see NOTICE.
+// From src/string.rs of RCL, changed: the parts stand in a lent list, and a part that is none of the text's is refused.
+
 // The indent of a string's parts.
 ghost use mathlib.Core.Path.{_≡_};
 ghost use lib.ListN.{take, drop};

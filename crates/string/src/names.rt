@@ -1,3 +1,8 @@
+// RCL -- A reasonable configuration language.
+// Copyright 2023 Ruud van Asseldonk
+// Licensed under the Apache License, Version 2.0 (the "License"): see NOTICE.
+// From src/string.rs of RCL, changed: on bytes.
+
 // Identifiers.
 ghost use mathlib.Core.Path.{_≡_};
 ghost use Rattle.rules.specs.Text.{all};

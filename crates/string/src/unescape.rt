@@ -1,3 +1,8 @@
+// RCL -- A reasonable configuration language.
+// Copyright 2023 Ruud van Asseldonk
+// Licensed under the Apache License, Version 2.0 (the "License"): see NOTICE.
+// From src/string.rs of RCL, changed: on bytes, the form is checked, output goes to a lent array, and an error is a numbered refusal.
+
 // Escape sequences: the scalar value of one, and writing it.
 ghost use mathlib.Core.Path.{_≡_};
 ghost use mathlib.Core.Bool.{true, cond};

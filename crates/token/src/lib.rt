@@ -378,6 +378,23 @@ pub fn state_of(kind: u8) -> Opened
     }
 }
 
+// What a token opens.
+pub fn opened_by(token: Token) -> Opened
+    ensures { λ r. ⌜ stateMeant r ≡ ifOpener (codeOf token) ⌝ }
+{
+    match token {
+        Token::QuoteOpen(prefix, style) => match prefix {
+            StringPrefix::None => Opened::State(State::String(style)),
+            StringPrefix::Format => Opened::State(State::Format(style)),
+        },
+        Token::HoleOpen => Opened::State(State::Hole),
+        Token::LParen => Opened::State(State::Paren),
+        Token::LBracket => Opened::State(State::Bracket),
+        Token::LBrace => Opened::State(State::Brace),
+        _ => Opened::NoOpener,
+    }
+}
+
 // Whether a lexeme opens: codes 5 to 8, 14, 33, 35, 37.
 pub fn opens(kind: u8) -> bool
     ensures { λ r. ⌜ r ≡ isOpener kind ⌝ }

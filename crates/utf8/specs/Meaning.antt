@@ -1,8 +1,14 @@
--- What the answer of `check` means: where the first bad sequence begins, if there is one.
+-- What the answer of `check` means: the paper's number and values for each case, in the document that the text is; and where the first bad sequence begins, if there is one.
 use Prim.Native.Nat.{ℕ}
 use mathlib.Core.Option.{Option, none, some}
+use Rattle.rules.specs.Refusals.{NotUtf8}
+use Rattle.rules.specs.Spans.{span, refuse, Verdict, accepted}
 use Rattle.utf8.specs.declared.Checked.{Checked}
 use Rattle.utf8.specs.declared.Checked.the-variants.{Valid, BadAt}
+
+abbrev pub verdictMeant : (doc : ℕ) → Checked → Verdict
+verdictMeant doc Valid = accepted
+verdictMeant doc (BadAt i) = refuse NotUtf8 (span doc i i)
 
 abbrev pub checkedMeant : Checked → Option ℕ
 checkedMeant Valid = none

@@ -1,10 +1,11 @@
 // UTF-8 by RFC 3629: whether a text is UTF-8, and where its first bad sequence begins.
 ghost use mathlib.Core.Path.{_≡_};
 ghost use mathlib.Core.Bool.{cond};
-ghost use Prim.Native.Nat.{_+_, _≤_, _<_};
+ghost use Prim.Native.Nat.{ℕ, _+_, _≤_, _<_};
 ghost use lib.ListN.{length, drop, getD};
 ghost use Rattle.rules.specs.Utf8.{isOctet, isTwo, isThree, isFour, charLength, firstBad};
-ghost use Rattle.utf8.specs.Meaning.{checkedMeant};
+ghost use Rattle.rules.specs.Spans.{utf8Verdict};
+ghost use Rattle.utf8.specs.Meaning.{checkedMeant, verdictMeant};
 ghost use Rattle.utf8.specs.Ahead.{Ahead, IfSo, Next};
 ghost use Rattle.utf8.specs.Blocks.{IfFollows, AllFollow, Largest, IfGood, StartsAt, IfStarts, lastBoundary};
 
@@ -303,6 +304,7 @@ fn next(text: &[u8], at: usize) -> usize
 // Goes over the text from place to place: in blocks, and one character at a time where no block fits.
 pub fn check(text: &[u8]) -> Checked
     ensures { λ r. ⌜ checkedMeant r ≡ firstBad (now (text .entry)) ⌝ }
+    ensures { λ r. ⌜ ((doc : ℕ) → verdictMeant doc r ≡ utf8Verdict doc (now (text .entry))) ⌝ }
 {
     let n = text.len();
     let mut i = 0;

@@ -2,15 +2,15 @@
 use Prim.Native.Nat.{ℕ, _+_, _≤_, _<_}
 use native.Mathlib.Omega.{arith}
 use mathlib.Core.Path.{_≡_, refl, sym, ap, _∙_}
-use mathlib.Core.Bool.{Bool, true, false, _&&_, _||_, false≢true}
+use mathlib.Core.Bool.{Bool, true, false, _&&_, false≢true}
 use mathlib.Core.List.{List}
 use mathlib.Core.Option.{none, some}
-use lib.Dec.{leb, ltb, eqb}
+use lib.Dec.{leb, eqb}
 use lib.ListN.{length, drop}
-use borrow.Author.Tests.{ne-eqb, le-leb, lt-leb, leb-true, leb-false, ltb-true, ltb-false}
+use borrow.Author.Tests.{ne-eqb, le-leb, lt-leb, leb-true, leb-false}
 use Rattle.rules.specs.Refusals.{OutputFull}
 use Rattle.rules.specs.Spans.{Span, bytesAt, Answer, given, refused, Refusal, refuse, accepted}
-use Rattle.rules.specs.Kinds.{StringInner, Single, UnicodeDelim, HoleOpen, isEscape}
+use Rattle.rules.specs.Kinds.{StringInner, HoleOpen, isEscape}
 use Rattle.rules.specs.Lexing.{Lexeme, lexeme}
 use Rattle.rules.specs.Utf8.{encode}
 use Rattle.rules.specs.Output.{endOf, chunk, overwritten}
@@ -77,22 +77,10 @@ pub given-of : {P A : Type 0} (a : Answer A) → verdictOn a ≡ accepted → ((
 given-of (given x) e f = f x refl
 given-of (refused r) e f = accepted-refused (sym e)
 
--- a kind before or after the escapes' is none of theirs
-pub no-escape : (k : ℕ) → ltb k Single || ltb UnicodeDelim k ≡ true → isEscape k ≡ false
-no-escape k h = decide (ltb k 11)
-    (λ e. rw (lt-leb 11 k (ltb-true k 11 e)) refl)
-    (λ e. let after : ltb 13 k ≡ true = rw e at h in rw (le-leb 11 k (ltb-false k 11 e), lt-leb k 13 (ltb-true 13 k after)) refl)
-
--- any other is
-pub some-escape : (k : ℕ) → ltb k Single || ltb UnicodeDelim k ≡ false → isEscape k ≡ true
-some-escape k h = decide (ltb k 11)
-    (λ e. absurd (false≢true (sym (rw e at h))))
-    (λ e. let upto : ltb 13 k ≡ false = rw e at h in rw (le-leb 11 k (ltb-false k 11 e), le-leb k 13 (ltb-false 13 k upto)) refl)
-
 -- an escape's kind is 11 to 13, so it is no String and no hole
 pub escape-kind : (k : ℕ) → isEscape k ≡ true → (eqb k StringInner ≡ false) × (eqb k HoleOpen ≡ false)
 escape-kind k e =
-    let t = both (leb Single k) (leb k UnicodeDelim) e in
+    let t = both (leb 11 k) (leb k 13) e in
     let from : 11 ≤ k = leb-true 11 k (t .0) in
     let to : k ≤ 13 = leb-true k 13 (t .1) in
     (ne-eqb k 10 (λ z. absurd (omega (arith, z))), ne-eqb k 14 (λ z. absurd (omega (arith, z))))

@@ -6,15 +6,18 @@ ghost use mathlib.Core.Bool.{true};
 ghost use Rattle.rules.specs.Spans.{refuse};
 ghost use Rattle.rules.specs.Kinds.{StringInner, isEscape};
 ghost use Rattle.rules.specs.Lexing.{lexeme};
+ghost use Rattle.rules.specs.Escapes.{verdictOn};
 ghost use Rattle.rules.specs.Value.{dedented, escapeVerdict};
 ghost use Rattle.source.specs.Meaning.{spanMeant};
 ghost use Rattle.list.specs.Entries.{entryMeant};
 ghost use Rattle.output.specs.Places.{Put};
 ghost use Rattle.cst.specs.Meaning.{partMeant};
+ghost use Rattle.string.specs.Meaning.{decodedMeant};
 ghost use Rattle.value.specs.Meaning.{verdictMeant, reachedMeant};
 ghost use Rattle.value.specs.Pieces.{takenOff, Good, PartWritten};
 use crate::Reached;
 use crate::Verdict;
+use cst::Known;
 use cst::StringPart;
 use list::Entry;
 use source::Span;
@@ -61,19 +64,37 @@ fn not_written(span: Span) -> Reached
     Reached::Refused(source::refuse(46, span))
 }
 
-// The refusal of a part that is an escape.
-pub(crate) fn check_escape(text: &[u8], entry: Entry) -> Verdict
-    ensures { λ r. ⌜ verdictMeant r ≡ escapeVerdict (now (text .entry)) (entryMeant entry) ⌝ }
+fn verdict_on(answer: Decoded) -> Verdict
+    ensures { λ r. ⌜ verdictMeant r ≡ verdictOn (decodedMeant answer) ⌝ }
 {
-    let kind = entry.kind;
-    if (kind < 11) | (13 < kind) {
-        return Verdict::Accepted;
-    }
-    let answer = string::scalar_value(text, entry.at, kind);
     match answer {
         Decoded::Scalar(_) => Verdict::Accepted,
         Decoded::Refused(refusal) => Verdict::Refused(refusal),
     }
+}
+
+// The refusal of a part that is an escape.
+fn check_part(text: &[u8], part: StringPart) -> Verdict
+    ensures { λ r. ⌜ verdictMeant r ≡ escapeVerdict (now (text .entry)) (partMeant part) ⌝ }
+{
+    match part {
+        StringPart::String(_) => Verdict::Accepted,
+        StringPart::Escape(span, escape) => {
+            verdict_on(string::scalar_value(text, span, token::escape_code(escape)))
+        }
+        StringPart::Hole(_) => Verdict::Accepted,
+    }
+}
+
+// The same of an entry of a list.
+pub(crate) fn check_escape(text: &[u8], entry: Entry) -> Verdict
+    ensures { λ r. ⌜ verdictMeant r ≡ escapeVerdict (now (text .entry)) (entryMeant entry) ⌝ }
+{
+    let known = cst::part(entry);
+    let Known::Part(part) = known else {
+        return Verdict::Accepted;
+    };
+    check_part(text, part)
 }
 
 // Writes a String part.

@@ -11,6 +11,7 @@ use crate::Reached;
 use crate::Verdict;
 use crate::piece;
 use cst::Known;
+use cst::StringPart;
 
 // The first refusal of an escape.
 pub(crate) fn check_escapes(text: &[u8], kinds: &[u8], words: &[u64], count: usize) -> Verdict
@@ -45,10 +46,14 @@ pub(crate) fn is_unbroken(
         return false;
     }
     let entry = list::get(kinds, words, 0);
-    if entry.kind != 10 {
+    let known = cst::part(entry);
+    let Known::Part(part) = known else {
         return false;
-    }
-    let line = source::resolve(text, entry.at);
+    };
+    let StringPart::String(span) = part else {
+        return false;
+    };
+    let line = source::resolve(text, span);
     piece::string_length(line, indent) == line.len()
 }
 

@@ -6,6 +6,7 @@ ghost use Rattle.rules.specs.Kinds.{isTriple};
 ghost use Rattle.rules.specs.Lexing.{lexemesIn};
 ghost use Rattle.rules.specs.Spans.{given};
 ghost use Rattle.rules.specs.Value.{inText, Values};
+ghost use Rattle.token.specs.Codes.{stateCode};
 ghost use Rattle.list.specs.Entries.{entryMeant};
 ghost use Rattle.cst.specs.Meaning.{closerMeant};
 ghost use Rattle.string.specs.Meaning.{indentedMeant};
@@ -20,6 +21,9 @@ use crate::pieces;
 use cst::Closer;
 use list::Entry;
 use string::Indented;
+use token::Opened;
+use token::QuoteStyle;
+use token::State;
 
 // The refusal of the parts list.
 fn no_parts(closer: Closer) -> Answer
@@ -52,13 +56,34 @@ fn no_escapes(verdict: Verdict) -> Answer
 }
 
 // "in triple quotes the indent is taken off"
+fn indent_in(state: State, spaces: usize) -> usize
+    ensures { λ r. ⌜ r ≡ cond (isTriple (stateCode state)) spaces 0 ⌝ }
+{
+    match state {
+        State::String(style) => match style {
+            QuoteStyle::Double => 0,
+            QuoteStyle::Triple => spaces,
+        },
+        State::Format(style) => match style {
+            QuoteStyle::Double => 0,
+            QuoteStyle::Triple => spaces,
+        },
+        State::Brace => 0,
+        State::Paren => 0,
+        State::Bracket => 0,
+        State::Hole => 0,
+    }
+}
+
+// The same by the opener's code.
 fn indent_taken(quote: u8, spaces: usize) -> usize
     ensures { λ r. ⌜ r ≡ cond (isTriple quote) spaces 0 ⌝ }
 {
-    if (quote == 6) | (quote == 8) {
-        return spaces;
-    }
-    0
+    let opened = token::state_of(quote);
+    let Opened::State(state) = opened else {
+        return 0;
+    };
+    indent_in(state, spaces)
 }
 
 // "handed back as that part of the text"

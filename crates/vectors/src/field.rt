@@ -39,6 +39,11 @@ pub(crate) fn after(line: &[u8], end: usize) -> usize {
     end
 }
 
+// The field after the one that begins at `start`.
+pub(crate) fn next(line: &[u8], start: usize) -> usize {
+    after(line, end_of(line, start))
+}
+
 // Whether the bytes from `start` to `end` are a word.
 pub(crate) fn is(line: &[u8], start: usize, end: usize, word: &[u8]) -> bool {
     if end < start {
@@ -88,4 +93,9 @@ pub(crate) fn number(line: &[u8], start: usize) -> u64 {
         i += 1;
     }
     n
+}
+
+// The same as a length or a place.
+pub(crate) fn size(line: &[u8], start: usize) -> usize {
+    number(line, start) as usize
 }

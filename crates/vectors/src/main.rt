@@ -1,10 +1,12 @@
 // Replays the fixed list of inputs that oracle/vectors wrote: runs the call that each line names and prints its answer, a line each. The gate holds
-// what is printed to the file stdout, which has the answers of the Rust and, for parts and values, of the judge. A line of another kind is printed as it is.
+// what is printed to the file stdout, which has the answers of the Rust and, where it has none, of the judge. A line of another kind is printed as it is.
+mod documents;
 mod field;
 mod lexes;
 mod lists;
 mod spans;
 mod strings;
+mod tallies;
 mod texts;
 mod tidied;
 mod walks;
@@ -14,7 +16,7 @@ ghost use lib.ListN.{length};
 use libc::STDIN_FILENO;
 use libc::STDOUT_FILENO;
 
-// A line on texts and spans: whether it was one.
+// A line on texts, spans and lexing: whether it was one.
 fn replay_text(line: &[u8], word: usize, rest: usize) -> bool {
     if field::is(line, 0, word, b"utf8") {
         texts::utf8(line, rest);
@@ -26,6 +28,14 @@ fn replay_text(line: &[u8], word: usize, rest: usize) -> bool {
     }
     if field::is(line, 0, word, b"lex") {
         lexes::lex(line, rest);
+        return true;
+    }
+    if field::is(line, 0, word, b"tally") {
+        tallies::tallied(line, rest);
+        return true;
+    }
+    if field::is(line, 0, word, b"document") {
+        documents::document(line, rest);
         return true;
     }
     false

@@ -1,6 +1,8 @@
 // Identifiers, escapes, indent, parts and values of strings.
 use crate::field;
 use crate::lists;
+use crate::lists::MARK;
+use crate::lists::MARKED;
 use crate::texts;
 use cst::Closer;
 use libc::STDOUT_FILENO;
@@ -11,15 +13,6 @@ use string::Indented;
 use string::Unescaped;
 use value::Answer;
 use value::Where;
-
-// The field after the one that begins at `a`.
-pub(crate) fn next(line: &[u8], a: usize) -> usize {
-    field::after(line, field::end_of(line, a))
-}
-
-pub(crate) fn size(line: &[u8], a: usize) -> usize {
-    field::number(line, a) as usize
-}
 
 fn kind_code(line: &[u8], a: usize) -> u8 {
     (field::number(line, a) % 256) as u8
@@ -62,10 +55,10 @@ pub(crate) fn keyword(line: &[u8], a: usize) {
 
 // `scalar LOW HIGH KIND BYTES`
 pub(crate) fn scalar(line: &[u8], a: usize) {
-    let b = next(line, a);
-    let c = next(line, b);
+    let b = field::next(line, a);
+    let c = field::next(line, b);
     let mut bytes = [0u8; 256];
-    let n = texts::read_bytes(line, next(line, c), &mut bytes);
+    let n = texts::read_bytes(line, field::next(line, c), &mut bytes);
     let span = Span {
         low: field::number(line, a),
         high: field::number(line, b),
@@ -85,47 +78,53 @@ fn print_unescaped(answer: Unescaped) {
     io::write_all(STDOUT_FILENO, b" ;");
 }
 
+// The lent part of an output.
+fn print_output(bytes: &[u8; 72], places: usize) {
+    lists::print_first(bytes, places);
+}
+
 // `escape LOW HIGH KIND OUTPUT POSITION BYTES`
 pub(crate) fn escape(line: &[u8], a: usize) {
-    let b = next(line, a);
-    let c = next(line, b);
-    let d = next(line, c);
-    let e = next(line, d);
-    let places = size(line, d);
-    if 64 < places {
-        return;
-    }
+    let b = field::next(line, a);
+    let c = field::next(line, b);
+    let d = field::next(line, c);
+    let e = field::next(line, d);
     let mut bytes = [0u8; 256];
-    let n = texts::read_bytes(line, next(line, e), &mut bytes);
+    let n = texts::read_bytes(line, field::next(line, e), &mut bytes);
     let span = Span {
         low: field::number(line, a),
         high: field::number(line, b),
     };
-    let mut output = [0u8; 64];
+    let mut output = [MARK; 72];
+    let places = lists::bytes_of(&output, field::size(line, d));
     let answer = string::unescape_into(
         &bytes[..n],
         span,
         kind_code(line, c),
         &mut output[..places],
-        size(line, e),
+        field::size(line, e),
     );
     print_unescaped(answer);
-    lists::print_bytes(&output[..places]);
+    print_output(&output, field::size(line, d));
 }
 
-// `indent COUNT BYTES LIST`
+// `indent KINDS WORDS COUNT BYTES LIST`
 pub(crate) fn indent(line: &[u8], a: usize) {
-    let b = next(line, a);
+    let b = field::next(line, a);
+    let c = field::next(line, b);
+    let d = field::next(line, c);
     let mut bytes = [0u8; 256];
-    let n = texts::read_bytes(line, b, &mut bytes);
-    let mut kinds = [0u8; 40];
-    let mut words = [0u64; 80];
-    let entries = lists::read_list(line, next(line, b), &mut kinds, &mut words);
+    let n = texts::read_bytes(line, d, &mut bytes);
+    let mut kinds = [MARK; 48];
+    let mut words = [MARKED; 96];
+    lists::read_list(line, field::next(line, d), &mut kinds, &mut words);
+    let k = lists::bytes_of(&kinds, field::size(line, a));
+    let w = lists::words_of(&words, field::size(line, b));
     let answer = string::count_common_leading_spaces(
         &bytes[..n],
-        &kinds[..entries],
-        &words[..entries * 2],
-        size(line, a),
+        &kinds[..k],
+        &words[..w],
+        field::size(line, c),
     );
     match answer {
         Indented::Spaces(spaces) => print_given(spaces as u64),
@@ -133,11 +132,49 @@ pub(crate) fn indent(line: &[u8], a: usize) {
     }
 }
 
-// ` ; PARTS ;`
-fn print_count(parts: usize) {
+// What a call on the parts of a string is given: the lengths of the list's arrays, the count that is said and the opener's place; and the lengths of the arrays that it is lent for its parts.
+pub struct Given {
+    pub kinds: usize,
+    pub words: usize,
+    pub count: usize,
+    pub place: usize,
+    pub pkinds: usize,
+    pub pwords: usize,
+}
+
+// The six fields that begin at `a`.
+fn read_given(line: &[u8], a: usize) -> Given {
+    let b = field::next(line, a);
+    let c = field::next(line, b);
+    let d = field::next(line, c);
+    let e = field::next(line, d);
+    let f = field::next(line, e);
+    Given {
+        kinds: field::size(line, a),
+        words: field::size(line, b),
+        count: field::size(line, c),
+        place: field::size(line, d),
+        pkinds: field::size(line, e),
+        pwords: field::size(line, f),
+    }
+}
+
+// Where the field begins that follows them.
+fn after_given(line: &[u8], a: usize) -> usize {
+    let c = field::next(line, field::next(line, a));
+    let e = field::next(line, field::next(line, c));
+    field::next(line, field::next(line, e))
+}
+
+// How many parts were put, the parts, and how far the arrays were written.
+fn print_parts(parts: usize, kinds: &[u8; 48], words: &[u64; 96]) {
     io::write_all(STDOUT_FILENO, b" ;");
     lists::print(parts as u64);
     io::write_all(STDOUT_FILENO, b" ;");
+    lists::print_list(kinds, words, parts);
+    io::write_all(STDOUT_FILENO, b" ;");
+    lists::print(lists::bytes_end(kinds) as u64);
+    lists::print(lists::words_end(words) as u64);
 }
 
 fn print_closer(closer: Closer) {
@@ -147,31 +184,29 @@ fn print_closer(closer: Closer) {
     }
 }
 
-// `parts COUNT PLACE ROOM LIST`
+// `parts KINDS WORDS COUNT PLACE PKINDS PWORDS LIST`
 pub(crate) fn parts(line: &[u8], a: usize) {
-    let b = next(line, a);
-    let c = next(line, b);
-    let room = size(line, c);
-    if 40 < room {
-        return;
-    }
-    let mut kinds = [0u8; 40];
-    let mut words = [0u64; 80];
-    let entries = lists::read_list(line, next(line, c), &mut kinds, &mut words);
-    let mut pkinds = [0u8; 40];
-    let mut pwords = [0u64; 80];
+    let given = read_given(line, a);
+    let mut kinds = [MARK; 48];
+    let mut words = [MARKED; 96];
+    lists::read_list(line, after_given(line, a), &mut kinds, &mut words);
+    let k = lists::bytes_of(&kinds, given.kinds);
+    let w = lists::words_of(&words, given.words);
+    let mut pkinds = [MARK; 48];
+    let mut pwords = [MARKED; 96];
+    let pk = lists::bytes_of(&pkinds, given.pkinds);
+    let pw = lists::words_of(&pwords, given.pwords);
     let r = cst::parts(
-        &kinds[..entries],
-        &words[..entries * 2],
-        size(line, a),
-        size(line, b),
-        &mut pkinds[..room],
-        &mut pwords,
+        &kinds[..k],
+        &words[..w],
+        given.count,
+        given.place,
+        &mut pkinds[..pk],
+        &mut pwords[..pw],
     );
     let closer = r.answer;
     print_closer(closer);
-    print_count(r.parts);
-    lists::print_list(&pkinds, &pwords, r.parts);
+    print_parts(r.parts, &pkinds, &pwords);
 }
 
 // Where a value stands: `text START END` or `output START END`.
@@ -190,7 +225,7 @@ fn print_where(held: Where) {
     }
 }
 
-fn print_value(answer: Answer) {
+pub(crate) fn print_value(answer: Answer) {
     match answer {
         Answer::Found(held) => print_where(held),
         Answer::Refused(refusal) => print_refused(refusal),
@@ -199,60 +234,56 @@ fn print_value(answer: Answer) {
 
 // The value of a string in a text and its list, in an output of so many places.
 fn value_in(
-    line: &[u8],
-    a: usize,
     text: &[u8],
     kinds: &[u8],
     words: &[u64],
-    room: usize,
-    places: usize,
+    given: Given,
+    output: usize,
     position: usize,
 ) {
-    if 40 < room {
-        return;
-    }
-    if 64 < places {
-        return;
-    }
-    let mut pkinds = [0u8; 40];
-    let mut pwords = [0u64; 80];
-    let mut output = [0u8; 64];
+    let mut pkinds = [MARK; 48];
+    let mut pwords = [MARKED; 96];
+    let mut bytes = [MARK; 72];
+    let pk = lists::bytes_of(&pkinds, given.pkinds);
+    let pw = lists::words_of(&pwords, given.pwords);
+    let places = lists::bytes_of(&bytes, output);
     let r = value::value(
         text,
         kinds,
         words,
-        size(line, a),
-        size(line, next(line, a)),
-        &mut pkinds[..room],
-        &mut pwords,
-        &mut output[..places],
+        given.count,
+        given.place,
+        &mut pkinds[..pk],
+        &mut pwords[..pw],
+        &mut bytes[..places],
         position,
     );
     let answer = r.answer;
     print_value(answer);
-    print_count(r.parts);
-    lists::print_bytes(&output[..places]);
+    print_parts(r.parts, &pkinds, &pwords);
+    io::write_all(STDOUT_FILENO, b" ;");
+    print_output(&bytes, output);
 }
 
-// `value COUNT PLACE ROOM OUTPUT POSITION BYTES LIST`
+// `value KINDS WORDS COUNT PLACE PKINDS PWORDS OUTPUT POSITION BYTES LIST`
 pub(crate) fn value(line: &[u8], a: usize) {
-    let c = next(line, next(line, a));
-    let d = next(line, c);
-    let e = next(line, d);
-    let f = next(line, e);
+    let given = read_given(line, a);
+    let g = after_given(line, a);
+    let h = field::next(line, g);
+    let i = field::next(line, h);
     let mut bytes = [0u8; 256];
-    let n = texts::read_bytes(line, f, &mut bytes);
-    let mut kinds = [0u8; 40];
-    let mut words = [0u64; 80];
-    let entries = lists::read_list(line, next(line, f), &mut kinds, &mut words);
+    let n = texts::read_bytes(line, i, &mut bytes);
+    let mut kinds = [MARK; 48];
+    let mut words = [MARKED; 96];
+    lists::read_list(line, field::next(line, i), &mut kinds, &mut words);
+    let k = lists::bytes_of(&kinds, given.kinds);
+    let w = lists::words_of(&words, given.words);
     value_in(
-        line,
-        a,
         &bytes[..n],
-        &kinds[..entries],
-        &words[..entries * 2],
-        size(line, c),
-        size(line, d),
-        size(line, e),
+        &kinds[..k],
+        &words[..w],
+        given,
+        field::size(line, g),
+        field::size(line, h),
     );
 }

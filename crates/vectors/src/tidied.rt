@@ -1,64 +1,60 @@
 // The tidy writer, and handing back.
 use crate::field;
 use crate::lexes;
+use crate::lexes::Lent;
 use crate::lists;
+use crate::lists::MARK;
+use crate::lists::MARKED;
 use crate::strings;
 use crate::texts;
 use hand::Checked;
 use libc::STDOUT_FILENO;
 use value::Where;
 
-// Tidies into an output of so many places, with a list and a stack of so many.
-fn tidy_in(doc: u32, text: &[u8], list: usize, stack: usize, places: usize) {
-    if 160 < list {
-        return;
-    }
-    if 64 < stack {
-        return;
-    }
-    if 256 < places {
-        return;
-    }
-    let mut kinds = [0u8; 160];
-    let mut words = [0u64; 320];
-    let mut skinds = [0u8; 64];
-    let mut swords = [0u64; 128];
-    let mut output = [0u8; 256];
+// The lent part of an output.
+fn print_output(bytes: &[u8; 264], places: usize) {
+    lists::print_first(bytes, places);
+}
+
+// Tidies into an output of so many places, with the beginnings of longer arrays for list and stack.
+fn tidy_in(doc: u32, text: &[u8], lent: Lent, output: usize) {
+    let mut kinds = [MARK; 168];
+    let mut words = [MARKED; 336];
+    let mut skinds = [MARK; 72];
+    let mut swords = [MARKED; 144];
+    let mut bytes = [MARK; 264];
+    let k = lists::bytes_of(&kinds, lent.kinds);
+    let w = lists::words_of(&words, lent.words);
+    let sk = lists::bytes_of(&skinds, lent.skinds);
+    let sw = lists::words_of(&swords, lent.swords);
+    let places = lists::bytes_of(&bytes, output);
     let r = tidy::tidy(
         doc,
         text,
-        &mut kinds[..list],
-        &mut words,
-        &mut skinds[..stack],
-        &mut swords,
-        &mut output[..places],
+        &mut kinds[..k],
+        &mut words[..w],
+        &mut skinds[..sk],
+        &mut swords[..sw],
+        &mut bytes[..places],
     );
     let lexed = r.lexed;
-    let answer = lexed.answer;
-    let written = r.written;
-    lexes::print_answer(answer);
-    lexes::print_counts(lexed);
-    lists::print(written as u64);
-    if 256 < written {
-        return;
-    }
-    lists::print_bytes(&output[..written]);
+    lexes::print_lexed(lexed, &kinds, &words, &skinds, &swords);
+    io::write_all(STDOUT_FILENO, b" ;");
+    lists::print(r.written as u64);
+    print_output(&bytes, output);
 }
 
-// `tidy DOC LIST STACK OUTPUT BYTES`
+// `tidy DOC KINDS WORDS SKINDS SWORDS OUTPUT BYTES`
 pub(crate) fn tidy(line: &[u8], a: usize) {
-    let b = strings::next(line, a);
-    let c = strings::next(line, b);
-    let d = strings::next(line, c);
-    let doc = (field::number(line, a) % 0x1_0000_0000) as u32;
+    let b = field::next(line, a);
+    let c = lexes::after_lengths(line, b);
     let mut bytes = [0u8; 256];
-    let n = texts::read_bytes(line, strings::next(line, d), &mut bytes);
+    let n = texts::read_bytes(line, field::next(line, c), &mut bytes);
     tidy_in(
-        doc,
+        lexes::doc(line, a),
         &bytes[..n],
-        strings::size(line, b),
-        strings::size(line, c),
-        strings::size(line, d),
+        lexes::lengths(line, b),
+        field::size(line, c),
     );
 }
 
@@ -82,19 +78,19 @@ fn part(which: usize, start: usize, end: usize) -> Where {
 
 // `hand WHICH START END OUTPUTBYTES BYTES`
 pub(crate) fn hand(line: &[u8], a: usize) {
-    let b = strings::next(line, a);
-    let c = strings::next(line, b);
-    let d = strings::next(line, c);
+    let b = field::next(line, a);
+    let c = field::next(line, b);
+    let d = field::next(line, c);
     let held = part(
-        strings::size(line, a),
-        strings::size(line, b),
-        strings::size(line, c),
+        field::size(line, a),
+        field::size(line, b),
+        field::size(line, c),
     );
     let mut output = [0u8; 256];
     let m = texts::read_bytes(line, d, &mut output);
     let mut bytes = [0u8; 256];
-    let n = texts::read_bytes(line, strings::next(line, d), &mut bytes);
+    let n = texts::read_bytes(line, field::next(line, d), &mut bytes);
     print_checked(hand::check(&bytes[..n], &output[..m], held));
-    let w = hand::hand_one(&bytes[..n], &output[..m], held);
+    let w = hand::hand(&bytes[..n], &output[..m], held);
     lists::print_bytes(w);
 }

@@ -1,24 +1,27 @@
-// The walker: `walk DOC STACK STEPS BYTES`.
+// The walker: `walk DOC SKINDS SWORDS STEPS BYTES`.
 use crate::field;
+use crate::lexes;
 use crate::lists;
+use crate::lists::MARK;
+use crate::lists::MARKED;
 use crate::strings;
 use crate::texts;
+use lexer::Lexeme;
+use lexer::StepAnswer;
+use lexer::Stepped;
 use libc::STDOUT_FILENO;
-use list::Entry;
 use source::Note;
 use source::Refusal;
-use walker::Answer;
 use walker::Kept;
-use walker::Stepped;
 
 fn wide(b: u8) -> u64 {
     b as u64
 }
 
-fn print_lexeme(entry: Entry) {
-    let at = entry.at;
+fn print_lexeme(lexeme: Lexeme) {
+    let at = lexeme.at;
     io::write_all(STDOUT_FILENO, b"lexeme");
-    lists::print(wide(entry.kind));
+    lists::print(wide(lexeme.kind));
     lists::print(at.low);
     lists::print(at.high);
 }
@@ -37,11 +40,11 @@ fn print_noted(refusal: Refusal) {
     lists::print(opener.high);
 }
 
-fn print_answer(answer: Answer) {
+fn print_answer(answer: StepAnswer) {
     match answer {
-        Answer::Lexeme(entry) => print_lexeme(entry),
-        Answer::Ended => print_ended(),
-        Answer::Refused(refusal) => print_noted(refusal),
+        StepAnswer::Lexeme(lexeme) => print_lexeme(lexeme),
+        StepAnswer::Ended => print_ended(),
+        StepAnswer::Refused(refusal) => print_noted(refusal),
     }
 }
 
@@ -68,7 +71,7 @@ fn walk_steps(
         if 0 < i {
             io::write_all(STDOUT_FILENO, b" ; ");
         }
-        let stepped = walker::step_at(doc, text, position, depth, kept, skinds, swords);
+        let stepped = walker::step_from(doc, text, position, depth, kept, skinds, swords);
         print_step(stepped);
         position = stepped.position;
         depth = stepped.depth;
@@ -76,28 +79,40 @@ fn walk_steps(
     }
 }
 
-// The same with a stack of so many places.
-fn walk_in(doc: u32, text: &[u8], kept: Kept, places: usize, steps: usize) {
-    if 64 < places {
-        return;
-    }
-    let mut skinds = [0u8; 64];
-    let mut swords = [0u64; 128];
-    walk_steps(doc, text, kept, &mut skinds[..places], &mut swords, steps);
+// The stack after the steps: its openers, and how far its arrays were written.
+fn print_stack(skinds: &[u8; 72], swords: &[u64; 144]) {
+    let end = lists::bytes_end(skinds);
+    io::write_all(STDOUT_FILENO, b" ;");
+    lists::print_list(skinds, swords, end);
+    io::write_all(STDOUT_FILENO, b" ;");
+    lists::print(end as u64);
+    lists::print(lists::words_end(swords) as u64);
+}
+
+// The same with the beginnings of longer arrays for the stack.
+fn walk_in(doc: u32, text: &[u8], kept: Kept, kinds: usize, words: usize, steps: usize) {
+    let mut skinds = [MARK; 72];
+    let mut swords = [MARKED; 144];
+    let sk = lists::bytes_of(&skinds, kinds);
+    let sw = lists::words_of(&swords, words);
+    walk_steps(doc, text, kept, &mut skinds[..sk], &mut swords[..sw], steps);
+    print_stack(&skinds, &swords);
 }
 
 pub(crate) fn walk(line: &[u8], a: usize) {
-    let b = strings::next(line, a);
-    let c = strings::next(line, b);
-    let doc = (field::number(line, a) % 0x1_0000_0000) as u32;
+    let b = field::next(line, a);
+    let c = field::next(line, b);
+    let d = field::next(line, c);
+    let doc = lexes::doc(line, a);
     let mut bytes = [0u8; 256];
-    let n = texts::read_bytes(line, strings::next(line, c), &mut bytes);
-    let kept = walker::opening_refusal(doc, &bytes[..n]);
+    let n = texts::read_bytes(line, field::next(line, d), &mut bytes);
+    let kept = walker::open_from(doc, &bytes[..n]);
     walk_in(
         doc,
         &bytes[..n],
         kept,
-        strings::size(line, b),
-        strings::size(line, c),
+        field::size(line, b),
+        field::size(line, c),
+        field::size(line, d),
     );
 }

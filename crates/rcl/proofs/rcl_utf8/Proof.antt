@@ -14,10 +14,10 @@ enum-known-checked : tie.Need-enum-known-checked
 enum-known-checked c = search needs
 
 returns : tie.Need-returns
-returns c = rw (← (c .before .before .check .ensures), c .enum-told .given .1) refl
+returns c = rw (← (c .before .before .check .ensures .0), c .enum-told .given .1) refl
 
 returns-2 : tie.Need-returns-2
-returns-2 c = rw (← (c .before .before .before .check .ensures), c .before .checked .given .1) refl
+returns-2 c = rw (← (c .before .before .before .check .ensures .0), c .before .checked .given .1) refl
 
 pub rcl-utf8-spec : {M : Type 1} → statement M
 rcl-utf8-spec = tie.close (tie.spec check-requires enum-told enum-known-checked returns returns-2)

@@ -71,7 +71,7 @@ returns c =
     let among : loop .i < length ls = rw (c .before .before .before .before .before .before .before .before .before .before .before .before .before .end .ensures) at (c .before .before .before .before .before .before .before .before .before .before .before .loop-test .taken) in
     let here : drop (loop .i) ls ≡ l ∷ drop (loop .i + 1) ls = from-place (args .lexemes) all (loop .i) l among (c .before .before .before .before .before .before .before .before .before .before .get .ensures) in
     let between : gapMeant (c .before .before .before .before .before .before .before .before .gap-between .result) ≡ gap (loop .first) (l .kind) = c .before .before .before .before .before .before .before .before .gap-between .ensures in
-    let bytes : now (c .before .before .before .before .before .before .before .resolve .result) ≡ partOf (resolved text (l .at)) = c .before .before .before .before .before .before .before .resolve .ensures in
+    let bytes : now (c .before .before .before .before .before .before .before .resolve .result) ≡ partOf (resolved text (l .at)) = c .before .before .before .before .before .before .before .resolve .ensures .0 in
     let put : Put (pieceOf text (loop .first) l) (loop .at) (loop .output) false (c .before .before .before .before .before .put-piece .last .1 .1 .0) = rw (← between, ← bytes, ← not-true (c .before .before .before .before .before .put-piece .result) (c .before .before .if1 .taken)) (c .before .before .before .before .before .put-piece .ensures) in
     rw (c .finish .ensures .0, c .finish .ensures .1, c .before .refuse .ensures) (writing-stop l (loop .inv) here put)
 
@@ -113,7 +113,7 @@ loop-again c =
     let among : loop .i < length ls = rw (c .before .before .before .before .before .before .before .before .before .before .before .before .end .ensures) at (c .before .before .before .before .before .before .before .before .before .before .loop-test .taken) in
     let here : drop (loop .i) ls ≡ l ∷ drop (loop .i + 1) ls = from-place (args .lexemes) all (loop .i) l among (c .before .before .before .before .before .before .before .before .before .get .ensures) in
     let between : gapMeant (c .before .before .before .before .before .before .before .gap-between .result) ≡ gap (loop .first) (l .kind) = c .before .before .before .before .before .before .before .gap-between .ensures in
-    let bytes : now (c .before .before .before .before .before .before .resolve .result) ≡ partOf (resolved text (l .at)) = c .before .before .before .before .before .before .resolve .ensures in
+    let bytes : now (c .before .before .before .before .before .before .resolve .result) ≡ partOf (resolved text (l .at)) = c .before .before .before .before .before .before .resolve .ensures .0 in
     let put : Put (pieceOf text (loop .first) l) (loop .at) (loop .output) true (c .before .before .before .before .put-piece .last .1 .1 .0) = rw (← between, ← bytes, ← not-false (c .before .before .before .before .put-piece .result) (c .before .if1 .left)) (c .before .before .before .before .put-piece .ensures) in
     let next : ℕ = loop .at + c .gap-length .result + length (now (c .before .before .before .before .before .before .resolve .result)) in
     let size : next ≡ loop .at + length (pieceOf text (loop .first) l) =

@@ -1,10 +1,11 @@
 -- `check` meets its contract. The invariant: the first bad sequence of the text is the first from `i` on.
-use Prim.Native.Nat.{_-_}
+use Prim.Native.Nat.{ℕ, _-_}
 use mathlib.Core.Path.{ap}
 use mathlib.Core.Option.{some}
 use native.Mathlib.Omega.{arith}
 use borrow.Author.Needs.{needs}
 use lib.ListN.{length}
+use Rattle.rules.specs.Spans.{notUtf8At}
 use Rattle.utf8.specs.Ahead.{Ahead}
 use Rattle.utf8.proofs.Ahead.{stay, join, bad-answer, good-answer}
 use Rattle.utf8.proofs.check.Statement.{statement}
@@ -24,8 +25,8 @@ next-requires c κs = search needs
 
 returns : tie.Need-returns Inv-loop μ-loop
 returns c =
-    rw (bad-answer (c .before .before .before .loop .inv) (c .before .before .loop-test .taken) (c .before .next .ensures .bad (c .if1 .taken)))
-    (ap some (omega arith))
+    let bad = bad-answer (c .before .before .before .loop .inv) (c .before .before .loop-test .taken) (c .before .next .ensures .bad (c .if1 .taken)) in
+    (rw bad (ap some (omega arith)), λ doc. rw bad (ap (λ (i : ℕ). notUtf8At doc (some i)) (omega arith)))
 
 loop-less : tie.Need-loop-less Inv-loop μ-loop
 loop-less c = omega (arith, c .before .next .ensures .ahead (c .if1 .left) .up, c .before .next .ensures .ahead (c .if1 .left) .inside, c .if1 .left)
@@ -34,7 +35,9 @@ loop-again : tie.Need-loop-again Inv-loop μ-loop
 loop-again c = join (c .before .before .before .loop .inv) (c .before .next .ensures .ahead (c .if1 .left))
 
 returns-2 : tie.Need-returns-2 Inv-loop μ-loop
-returns-2 c = rw (good-answer (c .before .loop .inv) (c .loop-test .left))
+returns-2 c =
+    let good = good-answer (c .before .loop .inv) (c .loop-test .left) in
+    (rw good, λ doc. rw good)
 
 pub check-spec : {M : Type 1} → statement M
 check-spec =

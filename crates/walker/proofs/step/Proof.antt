@@ -44,18 +44,19 @@ use denote.Triple.Table.{entered, cited}
 use denote.Triple.Walked.{says, Stays, stay-none, gave-slice, walkOf, goes-none, goes-gave-slice, Walks, ends-at, walked, walk-meets}
 use denote.Exit.{yes}
 use denote.Triple.Clauses.{ensured, lasts}
-use Rattle.walker.specs.Meaning.{walkerAt, Walks as StepWalks}
+use Rattle.lexer.specs.Stepping.{walkerAt, Walks as StepWalks}
+use Rattle.walker.specs.Meaning.{keptMeant}
 use Rattle.walker.specs.declared.Walker.{Walker}
 use Rattle.walker.specs.declared.Walked.{Walked}
-use Rattle.walker.specs.declared.Stepped.{Stepped}
+use Rattle.lexer.specs.declared.Stepped.{Stepped}
 use Rattle.walker.proofs.Kept as K
 use Rattle.walker.proofs.Kept.Laws as K′
 use Rattle.walker.proofs.Walker as T
 use Rattle.walker.proofs.Walker.Laws as T′
 use Rattle.walker.proofs.Walked as X
 use Rattle.walker.proofs.Walked.Laws as X′
-use Rattle.walker.proofs.Stepped as S
-use Rattle.walker.proofs.Stepped.Laws as S′
+use Rattle.lexer.proofs.Stepped as S
+use Rattle.lexer.proofs.Stepped.Laws as S′
 use Rattle.walker.proofs.step_at as stepat
 use Rattle.walker.proofs.step_at.Symbol as stepat-def
 use Rattle.walker.proofs.step_at.Symbol.{name as #walker·step-at}
@@ -161,7 +162,7 @@ module _ {M : Type 1} (𝓤 : URA M) (H : Heap 𝓤) (A : Atoms 𝓤) (W : Given
 
   -- what the callee ensures, of its result and of the last lists
   abbrev Said : Stepped → List ℕ → List ℕ → Type 0
-  Said r xs ys = StepWalks (now (d .text)) (walkerAt (d .doc) (d .position) (d .depth) (d .kept)) (now ks) (now ss) r xs ys
+  Said r xs ys = StepWalks (now (d .text)) (walkerAt (d .doc) (d .position) (d .depth) (keptMeant (d .kept))) (now ks) (now ss) r xs ys
 
   abbrev Lasts : Type 0
   Lasts = Unit {0} × (Unit {0} × (Unit {0} × (Unit {0} × (Unit {0} × (List ℕ × (List ℕ × Unit {0}))))))
@@ -196,15 +197,15 @@ module _ {M : Type 1} (𝓤 : URA M) (H : Heap 𝓤) (A : Atoms 𝓤) (W : Given
         alloc1 ! (λ l₀. alloc1 ! (λ l₁. alloc1 ! (λ l₂. alloc1 ! (λ l₃. alloc1 ! (λ l₄. alloc1 ! (λ l₅. alloc1 ! (λ l₆. alloc1 ! (λ l₇. alloc1 ! (λ l₈. alloc1 ! (λ l₉. alloc1 ! (λ l₁₀. alloc1 ! (λ l₁₁. alloc1 ! (λ l₁₂. alloc1 ! (λ l₁₃. alloc1 ! (λ l₁₄. alloc1 ! (λ l₁₅. alloc1 ! (λ l₁₆. alloc1 ! (λ l₁₇. alloc0 ! $ params1 ! $
         pass1 ! (init ! 32 refl wt) $ pass1 ! (init ! 30 refl (mut-slice-lawful 𝓤 H A W (named 1) (κs .1 .0) u8 .typed ks (vk ∷ []) pk .0)) $ pass1 ! (init ! 28 refl (mut-slice-lawful 𝓤 H A W (named 2) (κs .1 .1 .0) u64 .typed ss (vs ∷ []) ps .0)) $ pass0 ! $
         -- the arguments: the fields, and the stack's slices lent on
-        assigns ! (of-opd ! (load ! (from ! (fld ! refl (stop !))) (look-in ! 32 (sub ! 1 refl (whole !))))) (from ! (stop !)) (init ! 24 refl (tt, wt .1 .1 .0)) $
-        assigns ! (of-opd ! (load ! (from ! (fld ! refl (stop !))) (look-in ! 32 (sub ! 0 refl (whole !))))) (from ! (stop !)) (init ! 22 refl (tt, wt .1 .0)) $
-        assigns ! (of-opd ! (load ! (from ! (fld ! refl (stop !))) (look-in ! 32 (sub ! 2 refl (whole !))))) (from ! (stop !)) (init ! 20 refl (tt, wt .1 .1 .1 .0)) $
-        assigns ! (of-opd ! (load ! (from ! (fld ! refl (stop !))) (look-in ! 32 (sub ! 3 refl (whole !))))) (from ! (stop !)) (init ! 18 refl (tt, wt .1 .1 .1 .1 .0)) $
-        assigns ! (of-opd ! (load ! (from ! (fld ! refl (stop !))) (look-in ! 32 (sub ! 4 refl (whole !))))) (from ! (stop !)) (init ! 16 refl (EL.lawful K.the-type K′.the-laws 𝓤 H A W tt .typed (d .kept) _ ik .0)) $
-        assigns ! (addr ! (from ! (fld ! refl (hop ! (look-in ! 30 (sub ! 0 refl (whole !))) (stop !))))) (from ! (stop !)) (init ! 14 refl (tt, tt)) $
-        assigns ! (agg ! (and-then ! (load ! (from ! (stop !)) (look ! 14 refl)) (and-then ! (load ! (from ! (fld ! refl (stop !))) (look-in ! 30 (sub ! 1 refl (whole !)))) (no-more !)))) (from ! (stop !)) (init ! 12 refl (tt, (tt, (record { fits = pk .0 .1 .0 }, tt)))) $
-        assigns ! (addr ! (from ! (fld ! refl (hop ! (look-in ! 28 (sub ! 0 refl (whole !))) (stop !))))) (from ! (stop !)) (init ! 10 refl (tt, tt)) $
-        assigns ! (agg ! (and-then ! (load ! (from ! (stop !)) (look ! 10 refl)) (and-then ! (load ! (from ! (fld ! refl (stop !))) (look-in ! 28 (sub ! 1 refl (whole !)))) (no-more !)))) (from ! (stop !)) (init ! 8 refl (tt, (tt, (record { fits = ps .0 .1 .0 }, tt)))) $
+        assigns ! (of-opd ! (load ! (from ! (fld ! {d = 16} refl (stop !))) (look-in ! 32 (sub ! 1 {d = 16} refl (whole !))))) (from ! (stop !)) (init ! 24 refl (tt, wt .1 .1 .0)) $
+        assigns ! (of-opd ! (load ! (from ! (fld ! {d = 0} refl (stop !))) (look-in ! 32 (sub ! 0 {d = 0} refl (whole !))))) (from ! (stop !)) (init ! 22 refl (tt, wt .1 .0)) $
+        assigns ! (of-opd ! (load ! (from ! (fld ! {d = 24} refl (stop !))) (look-in ! 32 (sub ! 2 {d = 24} refl (whole !))))) (from ! (stop !)) (init ! 20 refl (tt, wt .1 .1 .1 .0)) $
+        assigns ! (of-opd ! (load ! (from ! (fld ! {d = 32} refl (stop !))) (look-in ! 32 (sub ! 3 {d = 32} refl (whole !))))) (from ! (stop !)) (init ! 18 refl (tt, wt .1 .1 .1 .1 .0)) $
+        assigns ! (of-opd ! (load ! (from ! (fld ! {d = 40} refl (stop !))) (look-in ! 32 (sub ! 4 {d = 40} refl (whole !))))) (from ! (stop !)) (init ! 16 refl (EL.lawful K.the-type K′.the-laws 𝓤 H A W tt .typed (d .kept) _ ik .0)) $
+        assigns ! (addr ! (from ! (fld ! {d = 0} refl (hop ! (look-in ! 30 (sub ! 0 {d = 0} refl (whole !))) (stop !))))) (from ! (stop !)) (init ! 14 refl (tt, tt)) $
+        assigns ! (agg ! (and-then ! (load ! (from ! (stop !)) (look ! 14 refl)) (and-then ! (load ! (from ! (fld ! {d = 8} refl (stop !))) (look-in ! 30 (sub ! 1 {d = 8} refl (whole !)))) (no-more !)))) (from ! (stop !)) (init ! 12 refl (tt, (tt, (record { fits = pk .0 .1 .0 }, tt)))) $
+        assigns ! (addr ! (from ! (fld ! {d = 0} refl (hop ! (look-in ! 28 (sub ! 0 {d = 0} refl (whole !))) (stop !))))) (from ! (stop !)) (init ! 10 refl (tt, tt)) $
+        assigns ! (agg ! (and-then ! (load ! (from ! (stop !)) (look ! 10 refl)) (and-then ! (load ! (from ! (fld ! {d = 8} refl (stop !))) (look-in ! 28 (sub ! 1 {d = 8} refl (whole !)))) (no-more !)))) (from ! (stop !)) (init ! 8 refl (tt, (tt, (record { fits = ps .0 .1 .0 }, tt)))) $
         move ! (36 ∷ []) $ use1 W (raw (StepAt 𝓤 H A mem run .pre to) ⊛ ‵ Here) (apart (wt .1 .1 .0 .fits) (wt .1 .1 .1 .0 .fits) (wt .1 .1 .1 .1 .0 .fits) ik) $ split ! $
         calls-at ! fm (StepAt 𝓤 H A mem run) known to (and-then ! (load ! (from ! (stop !)) (look ! 26 refl)) (and-then ! (load ! (from ! (stop !)) (look ! 24 refl)) (and-then ! (load ! (from ! (stop !)) (look ! 22 refl)) (and-then ! (load ! (from ! (stop !)) (look ! 20 refl)) (and-then ! (load ! (from ! (stop !)) (look ! 18 refl)) (and-then ! (load ! (from ! (stop !)) (look ! 14 refl)) (and-then ! (load ! (from ! (stop !)) (look ! 10 refl)) (no-more !)))))))) (λ u.
         use1 W (later (some (λ (r : Stepped). (toks ⊛ ‵ (S.the-row .own r (u ∷ []))) ⊛ raw (ensured 𝓤 H A stepat.ended (stepat.clauses 𝓤 H A mem run) κs pa tt r)))) (id⊢ 𝓤 _) $ await ! tt $ pick ! (λ r.
@@ -217,9 +218,9 @@ module _ {M : Type 1} (𝓤 : URA M) (H : Heap 𝓤) (A : Atoms 𝓤) (W : Given
         let pr : r .position < 2 ^ 64 = LL.owed S.the-type S′.the-laws r _ is .1 .0 .1 in
         let dr : r .depth < 2 ^ 64 = LL.owed S.the-type S′.the-laws r _ is .1 .1 .0 .1 in
         land ! (from ! (stop !)) (init ! 31 refl (LL.lawful S.the-type S′.the-laws 𝓤 H A W .typed r _ is .0)) $ rewrite ! 31 (λ (x : Val). ‵ (fat fullShare S′.mir l₄ 0 x)) (ap only (LL.tells S.the-type S′.the-laws r _ is)) refl $
-        assigns ! (of-opd ! (load ! (from ! (fld ! refl (stop !))) (look-in ! 37 (sub ! 0 refl (whole !))))) (from ! (stop !)) (init ! 11 refl (tt, wt .1 .0)) $
-        assigns ! (of-opd ! (load ! (from ! (fld ! refl (stop !))) (look-in ! 37 (sub ! 1 refl (whole !))))) (from ! (stop !)) (init ! 9 refl (tt, wt .1 .1 .0)) $
-        assigns ! (of-opd ! (load ! (from ! (fld ! refl (stop !))) (look-in ! 37 (sub ! 4 refl (whole !))))) (from ! (stop !)) (init ! 7 refl (EL.lawful K.the-type K′.the-laws 𝓤 H A W tt .typed (d .kept) _ ik .0)) $
+        assigns ! (of-opd ! (load ! (from ! (fld ! {d = 0} refl (stop !))) (look-in ! 37 (sub ! 0 {d = 0} refl (whole !))))) (from ! (stop !)) (init ! 11 refl (tt, wt .1 .0)) $
+        assigns ! (of-opd ! (load ! (from ! (fld ! {d = 16} refl (stop !))) (look-in ! 37 (sub ! 1 {d = 16} refl (whole !))))) (from ! (stop !)) (init ! 9 refl (tt, wt .1 .1 .0)) $
+        assigns ! (of-opd ! (load ! (from ! (fld ! {d = 40} refl (stop !))) (look-in ! 37 (sub ! 4 {d = 40} refl (whole !))))) (from ! (stop !)) (init ! 7 refl (EL.lawful K.the-type K′.the-laws 𝓤 H A W tt .typed (d .kept) _ ik .0)) $
         -- of what `step_at` returned the answer's part; and what the next walker owns, made of text's
         use1 W (given (u ∷ [] ≡ back r ∷ []) (‵ (all-own (S.the-type .parts) S′.the-laws (r .answer, (r .position, (r .depth, tt)))))) (own-open 𝓤 H A W S.the-type S′.the-laws (r .answer, (r .position, (r .depth, tt))) u) $ learn ! (λ _. fsplit ! $ move ! (1 ∷ []) $ drop ! $
         move ! (4 ∷ []) $ fsplit ! $ move ! (1 ∷ []) $ nothing ! $ owned ! K.the-row (Is K.the-row) (EL.makes K.the-type K′.the-plain 𝓤 H A) (d .kept) _ ik $ fjoin ! $
@@ -227,12 +228,12 @@ module _ {M : Type 1} (𝓤 : URA M) (H : Heap 𝓤) (A : Atoms 𝓤) (W : Given
         use1 W (‵ (B κs .own (next r) (vn r ∷ []))) (own-shut 𝓤 H A W D L (d .text, (d .doc, (r .position, (r .depth, (d .kept, tt)))))) $
         -- [the next walker; the struct; the answer; the tokens; the last words; the last kinds; _17; …; room for _0; …]
         peeks ! (B κs) (Is (B κs)) (shows 𝓤 H A (B κs)) (next r) (vn r ∷ []) (λ im.
-        assigns ! (agg ! (and-then ! (load ! (from ! (stop !)) (look ! 12 refl)) (and-then ! (load ! (from ! (stop !)) (look ! 10 refl)) (and-then ! (load ! (from ! (fld ! refl (stop !))) (look-in ! 32 (sub ! 1 refl (whole !)))) (and-then ! (load ! (from ! (fld ! refl (stop !))) (look-in ! 32 (sub ! 2 refl (whole !)))) (and-then ! (load ! (from ! (stop !)) (look ! 8 refl)) (no-more !))))))) (from ! (stop !))
+        assigns ! (agg ! (and-then ! (load ! (from ! (stop !)) (look ! 12 refl)) (and-then ! (load ! (from ! (stop !)) (look ! 10 refl)) (and-then ! (load ! (from ! (fld ! {d = 56} refl (stop !))) (look-in ! 32 (sub ! 1 {d = 56} refl (whole !)))) (and-then ! (load ! (from ! (fld ! {d = 64} refl (stop !))) (look-in ! 32 (sub ! 2 {d = 64} refl (whole !)))) (and-then ! (load ! (from ! (stop !)) (look ! 8 refl)) (no-more !))))))) (from ! (stop !))
         (init ! 6 refl (LL.lawful (T.the-type αᵉ) (T′.the-laws αᵉ) 𝓤 H A W .typed (next r) _ im .0)) $
         nothing ! $ move ! (1 ∷ 0 ∷ []) $ fjoin ! $ move ! (2 ∷ 0 ∷ []) $ fjoin ! $ use1 W (‵ (X.the-row α .own (res r) (out r ∷ []))) (own-shut 𝓤 H A W (X.the-type α) (X′.the-laws α) (r .answer, (next r, tt))) $
         -- [the result; the struct; the tokens; the last words; the last kinds; _17; …; room for _0; …]
         peeks ! (X.the-row α) (Is (X.the-row α)) (shows 𝓤 H A (X.the-row α)) (res r) (out r ∷ []) (λ iv.
-        assigns ! (agg ! (and-then ! (load ! (from ! (fld ! refl (stop !))) (look-in ! 31 (sub ! 0 refl (whole !)))) (and-then ! (load ! (from ! (stop !)) (look ! 5 refl)) (no-more !)))) (from ! (stop !)) (init ! 39 refl (LL.lawful (X.the-type α) (X′.the-laws α) 𝓤 H A W .typed (res r) _ iv .0)) $
+        assigns ! (agg ! (and-then ! (load ! (from ! (fld ! {d = 0} refl (stop !))) (look-in ! 31 (sub ! 0 {d = 0} refl (whole !)))) (and-then ! (load ! (from ! (stop !)) (look ! 5 refl)) (no-more !)))) (from ! (stop !)) (init ! 39 refl (LL.lawful (X.the-type α) (X′.the-laws α) 𝓤 H A W .typed (res r) _ iv .0)) $
         returns ! (look ! 39 refl) $ forget ! 5 refl $ forget ! 7 refl $ forget ! 9 refl $ forget ! 11 refl $ forget ! 13 refl $ forget ! 15 refl $ forget ! 17 refl $ forget ! 19 refl $ forget ! 21 refl $ forget ! 23 refl $ forget ! 25 refl $ forget ! 27 refl $ forget ! 29 refl $ forget ! 31 refl $ forget ! 33 refl $ forget ! 35 refl $ forget ! 37 refl $ forget ! 39 refl $
         move ! (39 ∷ 40 ∷ []) $ free1 ! $ move ! (37 ∷ 38 ∷ []) $ free1 ! $ move ! (35 ∷ 36 ∷ []) $ free1 ! $ move ! (33 ∷ 34 ∷ []) $ free1 ! $ move ! (31 ∷ 32 ∷ []) $ free1 ! $ move ! (29 ∷ 30 ∷ []) $ free1 ! $ move ! (27 ∷ 28 ∷ []) $ free1 ! $ move ! (25 ∷ 26 ∷ []) $ free1 ! $ move ! (23 ∷ 24 ∷ []) $ free1 ! $ move ! (21 ∷ 22 ∷ []) $ free1 ! $ move ! (19 ∷ 20 ∷ []) $ free1 ! $ move ! (17 ∷ 18 ∷ []) $ free1 ! $ move ! (15 ∷ 16 ∷ []) $ free1 ! $ move ! (13 ∷ 14 ∷ []) $ free1 ! $ move ! (11 ∷ 12 ∷ []) $ free1 ! $ move ! (9 ∷ 10 ∷ []) $ free1 ! $ move ! (7 ∷ 8 ∷ []) $ free1 ! $ move ! (5 ∷ 6 ∷ []) $ free1 ! $ free0 ! $
         by ! (exits r (zs .1 .1 .1 .1 .1 .0) (zs .1 .1 .1 .1 .1 .1 .0) e lx ly)))))))))))))))))))))))))))))

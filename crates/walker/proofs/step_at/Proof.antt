@@ -1,28 +1,69 @@
--- Answer, position and depth are what `moved` ensures; what `write` leaves by the answer is what the rule leaves (`walking-told`).
-use mathlib.Core.Path.{sym, ap, _∙_}
+-- A refusal that is kept is given (`gives-walks`); a walker that keeps nothing takes a step of the lexer.
+use mathlib.Core.Path.{sym, ap}
+use mathlib.Core.Option.{some}
+use Rattle.rules.specs.Walker.{tooLong, notUtf8}
+use Rattle.walker.proofs.Keeping.{gives-walks}
 use borrow.Author.Needs.{needs}
-use Rattle.walker.specs.Meaning.{walkerAt}
-use Rattle.walker.specs.Moved.{Moved}
-use Rattle.walker.proofs.Walking.{walking-told}
 use Rattle.walker.proofs.step_at.Statement.{statement}
 use Rattle.walker.proofs.step_at.Tie as tie
 
+enum-told : tie.Need-enum-told
+enum-told c = search needs
+
+start-of-requires : tie.Need-start-of-requires
+start-of-requires c κs = search needs
+
+refuse-requires : tie.Need-refuse-requires
+refuse-requires c κs = search needs
+
+gives-requires : tie.Need-gives-requires
+gives-requires c κs = search needs
+
+enum-known-kept : tie.Need-enum-known-kept
+enum-known-kept c = search needs
+
+bad-at-requires : tie.Need-bad-at-requires
+bad-at-requires c κs = search needs
+
+gives-requires-2 : tie.Need-gives-requires-2
+gives-requires-2 c κs = search needs
+
+enum-told-2 : tie.Need-enum-told-2
+enum-told-2 c = search needs
+
+step-at-requires : tie.Need-step-at-requires
+step-at-requires c κs = search needs
+
 returns : tie.Need-returns
-returns c =
-    let v = c .before .before .before .before in
-    let m = v .before .before .before in
-    let a = m .before .before .before .before .before .before .args in
-    let ks = a .skinds .now in
-    let ws = a .swords .now in
-    let told = walking-told (a .text .now) (walkerAt (a .doc) (a .position) (a .depth) (a .kept)) ks ws in
-    let same = ap (λ (r : Moved). r .answer) (m .moved .ensures) in
-    record {
-      answer = same;
-      position = ap (λ (r : Moved). r .at) (m .moved .ensures);
-      depth = ap (λ (r : Moved). r .depth) (m .moved .ensures);
-      kinds = v .write .ensures .kinds ∙ rw same (sym (told .kinds));
-      words = v .write .ensures .words ∙ rw same (sym (told .words));
-    }
+returns c = rw (c .before .before .before .enum-told .given .1, c .gives .ensures) (gives-walks (c .before .before .before .before .before .before .before .before .args .text .now) (c .before .before .before .before .before .before .before .before .args .skinds .now) (c .before .before .before .before .before .before .before .before .args .swords .now) (c .before .before .before .before .before .before .before .before .args .doc) (c .before .before .before .before .before .before .before .before .args .position) (c .before .before .before .before .before .before .before .before .args .depth) tooLong _ (rw (c .before .refuse .ensures, c .before .before .start-of .ensures)))
+
+returns-2 : tie.Need-returns-2
+returns-2 c = rw (c .before .before .before .kept .given .1, c .gives2 .ensures) (gives-walks (c .before .before .before .before .before .before .before .before .args .text .now) (c .before .before .before .before .before .before .before .before .args .skinds .now) (c .before .before .before .before .before .before .before .before .args .swords .now) (c .before .before .before .before .before .before .before .before .args .doc) (c .before .before .before .before .before .before .before .before .args .position) (c .before .before .before .before .before .before .before .before .args .depth) (notUtf8 _) _ (ap some (sym (c .before .bad-at .ensures))))
+
+same-length : tie.Need-same-length
+same-length c = search needs
+
+same-length-2 : tie.Need-same-length-2
+same-length-2 c = search needs
+
+returns-3 : tie.Need-returns-3
+returns-3 c = rw (c .before .before .before .before .before .before .before .enum-told2 .given .1) (c .before .before .before .before .step-at .ensures)
 
 pub step-at-spec : {M : Type 1} → statement M
-step-at-spec = tie.close (tie.spec (λ c κs. search needs) (λ c κs. search needs) (λ c. search needs) (λ c. search needs) returns)
+step-at-spec =
+    tie.close
+    (tie.spec
+    enum-told
+    start-of-requires
+    refuse-requires
+    gives-requires
+    enum-known-kept
+    bad-at-requires
+    gives-requires-2
+    enum-told-2
+    step-at-requires
+    returns
+    returns-2
+    same-length
+    same-length-2
+    returns-3)

@@ -51,10 +51,10 @@ use Rattle.walker.proofs.Walker as T
 use Rattle.walker.proofs.Walker.Laws as T′
 use Rattle.walker.proofs.Walked as X
 use Rattle.walker.proofs.Walked.Laws as X′
-use Rattle.walker.proofs.Answer as N
-use Rattle.walker.proofs.Answer.Laws as N′
-use Rattle.walker.proofs.Stepped as S
-use Rattle.walker.proofs.Stepped.Laws as S′
+use Rattle.lexer.proofs.StepAnswer as N
+use Rattle.lexer.proofs.StepAnswer.Laws as N′
+use Rattle.lexer.proofs.Stepped as S
+use Rattle.lexer.proofs.Stepped.Laws as S′
 use Rattle.walker.proofs.step as one
 use Rattle.walker.proofs.step.Symbol as one-def
 use Rattle.walker.proofs.step.Symbol.{name as #walker·step}
@@ -183,10 +183,10 @@ module _ {M : Type 1} (𝓤 : URA M) (H : Heap 𝓤) (A : Atoms 𝓤) (W : Given
         pass1 ! (init ! 20 refl (mut-slice-lawful 𝓤 H A W (named 1) (κs .1 .0) u8 .typed ks (vk ∷ []) pk .0)) $ pass1 ! (init ! 18 refl (mut-slice-lawful 𝓤 H A W (named 2) (κs .1 .1 .0) u64 .typed ss (vs ∷ []) ps .0)) $ pass0 ! $
         assigns ! (agg ! (and-then ! (load ! (from ! (stop !)) (look ! 28 refl)) (and-then ! (load ! (from ! (stop !)) (look ! 30 refl)) (and-then ! (load ! (from ! (stop !)) (look ! 26 refl)) (and-then ! (load ! (from ! (stop !)) (look ! 24 refl)) (and-then ! (load ! (from ! (stop !)) (look ! 22 refl)) (no-more !))))))) (from ! (stop !))
         (init ! 14 refl (LL.lawful (T.the-type αᵉ) (T′.the-laws αᵉ) 𝓤 H A W .typed w _ iw .0)) $
-        assigns ! (addr ! (from ! (fld ! refl (hop ! (look-in ! 20 (sub ! 0 refl (whole !))) (stop !))))) (from ! (stop !)) (init ! 12 refl (tt, tt)) $
-        assigns ! (agg ! (and-then ! (load ! (from ! (stop !)) (look ! 12 refl)) (and-then ! (load ! (from ! (fld ! refl (stop !))) (look-in ! 20 (sub ! 1 refl (whole !)))) (no-more !)))) (from ! (stop !)) (init ! 10 refl (tt, (tt, (record { fits = pk .0 .1 .0 }, tt)))) $
-        assigns ! (addr ! (from ! (fld ! refl (hop ! (look-in ! 18 (sub ! 0 refl (whole !))) (stop !))))) (from ! (stop !)) (init ! 8 refl (tt, tt)) $
-        assigns ! (agg ! (and-then ! (load ! (from ! (stop !)) (look ! 8 refl)) (and-then ! (load ! (from ! (fld ! refl (stop !))) (look-in ! 18 (sub ! 1 refl (whole !)))) (no-more !)))) (from ! (stop !)) (init ! 6 refl (tt, (tt, (record { fits = ps .0 .1 .0 }, tt)))) $
+        assigns ! (addr ! (from ! (fld ! {d = 0} refl (hop ! (look-in ! 20 (sub ! 0 {d = 0} refl (whole !))) (stop !))))) (from ! (stop !)) (init ! 12 refl (tt, tt)) $
+        assigns ! (agg ! (and-then ! (load ! (from ! (stop !)) (look ! 12 refl)) (and-then ! (load ! (from ! (fld ! {d = 8} refl (stop !))) (look-in ! 20 (sub ! 1 {d = 8} refl (whole !)))) (no-more !)))) (from ! (stop !)) (init ! 10 refl (tt, (tt, (record { fits = pk .0 .1 .0 }, tt)))) $
+        assigns ! (addr ! (from ! (fld ! {d = 0} refl (hop ! (look-in ! 18 (sub ! 0 {d = 0} refl (whole !))) (stop !))))) (from ! (stop !)) (init ! 8 refl (tt, tt)) $
+        assigns ! (agg ! (and-then ! (load ! (from ! (stop !)) (look ! 8 refl)) (and-then ! (load ! (from ! (fld ! {d = 8} refl (stop !))) (look-in ! 18 (sub ! 1 {d = 8} refl (whole !)))) (no-more !)))) (from ! (stop !)) (init ! 6 refl (tt, (tt, (record { fits = ps .0 .1 .0 }, tt)))) $
         move ! (34 ∷ []) $ use1 W (raw (One 𝓤 H A mem run .pre to) ⊛ ‵ OwnT) apart $ split ! $
         calls-at ! fm (One 𝓤 H A mem run) known to (and-then ! (load ! (from ! (stop !)) (look ! 16 refl)) (and-then ! (load ! (from ! (stop !)) (look ! 12 refl)) (and-then ! (load ! (from ! (stop !)) (look ! 8 refl)) (no-more !)))) (λ u.
         use1 W (later (some (λ (r : Walked). (toks ⊛ ‵ (X.the-row α .own r (u ∷ []))) ⊛ raw (ensured 𝓤 H A one.ended (one.clauses 𝓤 H A mem run) κs pa tt r)))) (id⊢ 𝓤 _) $ await ! tt $ pick ! (λ r.
@@ -202,9 +202,9 @@ module _ {M : Type 1} (𝓤 : URA M) (H : Heap 𝓤) (A : Atoms 𝓤) (W : Given
         peeks ! N.the-row (Is N.the-row) (shows 𝓤 H A N.the-row) (r .answer) _ (λ ia.
         let pr : r .next .position < 2 ^ 64 = LL.owed (T.the-type α) (T′.the-laws α) (r .next) _ im .1 .1 .0 .1 in
         let mr : r .next .depth < 2 ^ 64 = LL.owed (T.the-type α) (T′.the-laws α) (r .next) _ im .1 .1 .1 .0 .1 in
-        assigns ! (of-opd ! (load ! (from ! (fld ! refl (stop !))) (look-in ! 21 (sub ! 0 refl (whole !))))) (from ! (stop !)) (init ! 9 refl (EL.lawful N.the-type N′.the-laws 𝓤 H A W tt .typed (r .answer) _ ia .0)) $
-        assigns ! (of-opd ! (load ! (from ! (fld ! refl (fld ! refl (stop !)))) (look-in ! 21 (sub ! 2 refl (sub ! 1 refl (whole !)))))) (from ! (stop !)) (init ! 7 refl (tt, record { fits = pr })) $
-        assigns ! (of-opd ! (load ! (from ! (fld ! refl (fld ! refl (stop !)))) (look-in ! 21 (sub ! 3 refl (sub ! 1 refl (whole !)))))) (from ! (stop !)) (init ! 5 refl (tt, record { fits = mr })) $
+        assigns ! (of-opd ! (load ! (from ! (fld ! {d = 0} refl (stop !))) (look-in ! 21 (sub ! 0 {d = 0} refl (whole !))))) (from ! (stop !)) (init ! 9 refl (EL.lawful N.the-type N′.the-laws 𝓤 H A W tt .typed (r .answer) _ ia .0)) $
+        assigns ! (of-opd ! (load ! (from ! (fld ! {d = 56} refl (fld ! {d = 24} refl (stop !)))) (look-in ! 21 (sub ! 2 {d = 24} refl (sub ! 1 {d = 56} refl (whole !)))))) (from ! (stop !)) (init ! 7 refl (tt, record { fits = pr })) $
+        assigns ! (of-opd ! (load ! (from ! (fld ! {d = 56} refl (fld ! {d = 32} refl (stop !)))) (look-in ! 21 (sub ! 3 {d = 32} refl (sub ! 1 {d = 56} refl (whole !)))))) (from ! (stop !)) (init ! 5 refl (tt, record { fits = mr })) $
         -- [the answer's part; the tokens; …]: what the result owns
         nothing ! $ owned ! usize (Is usize) (uint-makes 𝓤 H A W w64) (r .next .depth) _ (refl, mr) $ fjoin ! $ owned ! usize (Is usize) (uint-makes 𝓤 H A W w64) (r .next .position) _ (refl, pr) $ fjoin ! $ move ! (1 ∷ 0 ∷ []) $ fjoin ! $
         use1 W (‵ (S.the-row .own (steppedOf r) (out r ∷ []))) (own-shut 𝓤 H A W S.the-type S′.the-laws (r .answer, (r .next .position, (r .next .depth, tt)))) $

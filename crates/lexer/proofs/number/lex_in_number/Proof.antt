@@ -1,13 +1,14 @@
 -- `number-at` and `decimal-at`, whose tests the branches decide.
 use Prim.Native.Nat.{_≤_}
-use mathlib.Core.Path.{_≡_, refl, sym, ap, _∙_}
+use mathlib.Core.Path.{_≡_, refl, sym}
 use mathlib.Core.Logic.{⊎-elim}
 use denote.Ref.{now}
 use borrow.Author.Tests.{ne-eqb}
 use native.Mathlib.Omega.{arith}
 use lib.ListN.{length, drop}
 use Rattle.rules.specs.Step.{number, decimal}
-use Rattle.lexer.specs.Outcome.{stepMeant}
+use Rattle.lexer.specs.ByClass.{fractionAlone}
+use Rattle.lexer.proofs.Loop.{found-means}
 use Rattle.lexer.proofs.Numbers.{number-at, decimal-at, int-within, fraction-within}
 use borrow.Author.Needs.{needs}
 use Rattle.lexer.proofs.number.lex_in_number.Statement.{statement}
@@ -63,10 +64,14 @@ exponent-at-requires c κs =
     let t = now (c .before .before .before .before .before .before .before .before .args .text) in
     let m = c .before .before .before .before .int-end .result in
     let inside : m ≤ length t = omega (arith, int-within t (c .before .before .before .before .before .before .before .before .args .at) (c .before .before .before .before .before .before .before .before .pre .inside)) in
-    omega (arith, fraction-within t m inside (sym (c .before .before .before .fraction-at .ensures) ∙ ap stepMeant (c .before .f .given .1)))
+    omega (arith, fraction-within t m inside (sym (found-means m (fractionAlone (drop m t)) _ _ (c .before .f .given .1) (c .before .before .before .fraction-at .ensures) .1)))
 
 returns-4 : tie.Need-returns-4
-returns-4 c = rw (no-prefix (c .before .before .before .before .before .before), decimal-at, ← c .before .before .before .before .before .int-end .ensures, ← c .before .before .before .before .fraction-at .ensures, c .before .before .f .given .1) (c .exponent-at .ensures)
+returns-4 c =
+    let t = now (c .before .before .before .before .before .before .before .before .before .args .text) in
+    let m = c .before .before .before .before .before .int-end .result in
+    let fraction = found-means m (fractionAlone (drop m t)) _ _ (c .before .before .f .given .1) (c .before .before .before .before .fraction-at .ensures) in
+    rw (no-prefix (c .before .before .before .before .before .before), decimal-at, ← c .before .before .before .before .before .int-end .ensures, ← fraction .1) (c .exponent-at .ensures)
 
 pub lex-in-number-spec : {M : Type 1} → statement M
 lex-in-number-spec =

@@ -1,75 +1,148 @@
--- Before the text's end the step is that of `run` up to the next position (`Runs .single`), where the innermost code is the one opener on the stack (`innermost-one`).
-use mathlib.Core.Path.{refl}
+-- The tests are those of `walking`, in its order; past them the step is one by the innermost opener (`walking-on`).
+use mathlib.Core.Path.{_≡_, sym, ap, _∙_}
+use mathlib.Core.Bool.{true, false}
 use native.Mathlib.Omega.{arith}
-use borrow.Author.Tests.{lt-ltb, le-ltb, lt-leb, le-leb}
-use Rattle.rules.specs.Spans.{limit}
-use Rattle.lexer.specs.Outcome.{steppedAt}
-use Rattle.lexer.proofs.Opening.{one-below, innermost-one}
+use lib.ListN.{length}
+use borrow.Author.Tests.{lt-ltb, le-leb}
+use mathlib.Core.Option.{Option}
+use Rattle.rules.specs.Spans.{Span, span, limit, Answer}
+use Rattle.rules.specs.Lexing.{Lexeme}
+use Rattle.rules.specs.Walker.{walking, isAstray}
+use Rattle.list.specs.Entries.{entryMeant}
+use Rattle.lexer.specs.Stepping.{moved, endBy, movedBy}
+use Rattle.lexer.proofs.Openers.{astray-found}
+use Rattle.lexer.proofs.Parts.{packed}
+use Rattle.lexer.proofs.Walking.{fresh, walking-astray, walking-on, walking-inside, walking-shallow, end-still, stays-by, walks-by}
 use borrow.Author.Needs.{needs}
 use Rattle.lexer.proofs.stepping.step_at.Statement.{statement}
 use Rattle.lexer.proofs.stepping.step_at.Tie as tie
 
-refused-requires : tie.Need-refused-requires
-refused-requires c κs = search needs
+pack-requires : tie.Need-pack-requires
+pack-requires c κs = search needs
+
+refuse-requires : tie.Need-refuse-requires
+refuse-requires c κs = search needs
+
+stays-requires : tie.Need-stays-requires
+stays-requires c κs = search needs
 
 returns : tie.Need-returns
-unfolding steppedAt
-returns c = rw (lt-ltb limit _ (c .before .if1 .taken)) (c .refused .ensures)
+unfolding walking
+returns c =
+    let a = c .before .before .before .before .before .before .before .args in
+    let start = packed (a .doc) 0 0 (c .before .before .before .pack .result .low) (c .before .before .before .pack .result .high) (omega arith) (omega arith) (c .before .before .before .pack .ensures) in
+    rw (c .stays .ensures) (stays-by (a .doc) (a .position) (a .depth) (a .text .now) (a .skinds .now) (a .swords .now) _ (rw (c .before .refuse .ensures, start, lt-ltb limit _ (c .before .before .if1 .taken))) tt)
 
-refused-requires-2 : tie.Need-refused-requires-2
-refused-requires-2 c κs = search needs
+places-requires : tie.Need-places-requires
+places-requires c κs = search needs
+
+top-requires : tie.Need-top-requires
+top-requires c κs = search needs
+
+astray-requires : tie.Need-astray-requires
+astray-requires c κs = search needs
+
+refuse-requires-2 : tie.Need-refuse-requires-2
+refuse-requires-2 c κs = search needs
+
+stays-requires-2 : tie.Need-stays-requires-2
+stays-requires-2 c κs = search needs
+
+same-length : tie.Need-same-length
+same-length c = search needs
+
+same-length-2 : tie.Need-same-length-2
+same-length-2 c = search needs
 
 returns-2 : tie.Need-returns-2
-unfolding steppedAt
-returns-2 c = rw (le-ltb limit _ (c .before .before .if1 .left), le-leb _ _ (c .before .if2 .taken)) (c .refused2 .ensures)
+returns-2 c =
+    let a = c .before .before .before .before .before .before .before .before .before .before .before .before .before .before .before .args in
+    let w = fresh (a .doc) (a .position) (a .text .now) (a .skinds .now) (a .swords .now) (a .depth) in
+    let start = packed (a .doc) 0 0 (c .before .before .before .before .before .before .before .before .before .before .before .pack .result .low) (c .before .before .before .before .before .before .before .before .before .before .before .pack .result .high) (omega arith) (omega arith) (c .before .before .before .before .before .before .before .before .before .before .before .pack .ensures) in
+    let astray : isAstray (a .text .now) w (a .skinds .now) (a .swords .now) ≡ true = astray-found (a .text .now) w (a .skinds .now) (a .swords .now) _ _ _ (c .before .before .before .astray .ensures) (c .before .before .before .before .before .before .before .places .ensures) (ap (λ (l : Lexeme). l .kind) (c .before .before .before .before .top .ensures)) ∙ c .before .before .if2 .taken in
+    rw (c .stays2 .ensures) (stays-by (a .doc) (a .position) (a .depth) (a .text .now) (a .skinds .now) (a .swords .now) _ (rw (c .before .refuse2 .ensures, start) (sym (walking-astray (a .doc) (a .position) (a .text .now) (a .skinds .now) (a .swords .now) (a .depth) (omega (arith, c .before .before .before .before .before .before .before .before .before .before .if1 .left)) astray))) tt)
 
-opened-requires : tie.Need-opened-requires
-opened-requires c κs = search needs
+pack-requires-2 : tie.Need-pack-requires-2
+pack-requires-2 c κs =
+    let a = c .before .before .before .before .before .before .before .before .before .before .before .before .before .before .args in
+    let w = fresh (a .doc) (a .position) (a .text .now) (a .skinds .now) (a .swords .now) (a .depth) in
+    let astray : isAstray (a .text .now) w (a .skinds .now) (a .swords .now) ≡ false = astray-found (a .text .now) w (a .skinds .now) (a .swords .now) _ _ _ (c .before .before .astray .ensures) (c .before .before .before .before .before .before .places .ensures) (ap (λ (l : Lexeme). l .kind) (c .before .before .before .top .ensures)) ∙ c .before .if2 .left in
+    let inside = walking-inside (a .doc) (a .position) (a .text .now) (a .skinds .now) (a .swords .now) (a .depth) astray in
+    (omega (arith, inside, c .before .before .before .before .before .before .before .before .before .if1 .left), omega (arith, inside, c .before .before .before .before .before .before .before .before .before .if1 .left))
 
-array-write-skinds : tie.Need-array-write-skinds
-array-write-skinds c = search needs
+at-end-requires : tie.Need-at-end-requires
+at-end-requires c κs = search needs
 
-add-run : tie.Need-add-run
-add-run c = search needs
+stays-requires-3 : tie.Need-stays-requires-3
+stays-requires-3 c κs = search needs
 
-slice-aggregate-run : tie.Need-slice-aggregate-run
-slice-aggregate-run c = search needs
+same-length-3 : tie.Need-same-length-3
+same-length-3 c = search needs
 
-slice-aggregate-run-2 : tie.Need-slice-aggregate-run-2
-slice-aggregate-run-2 c = search needs
-
-slice-aggregate-run-3 : tie.Need-slice-aggregate-run-3
-slice-aggregate-run-3 c = search needs
-
-slice-aggregate-run-4 : tie.Need-slice-aggregate-run-4
-slice-aggregate-run-4 c = search needs
-
-run-requires : tie.Need-run-requires
-run-requires c κs = record { small = omega (arith, c .before .before .before .before .before .before .if1 .left); before = omega (arith, c .before .before .before .before .before .if2 .left); inside = omega (arith, c .before .before .before .before .before .if2 .left); stack = omega (arith, one-below _ _ (c .before .before .before .before .opened .ensures)); deepest = omega arith; steps = omega arith; dropped = omega arith }
+same-length-4 : tie.Need-same-length-4
+same-length-4 c = search needs
 
 returns-3 : tie.Need-returns-3
-unfolding steppedAt
-returns-3 c = rw (le-ltb limit _ (c .before .before .before .before .before .before .before .before .before .before .before .before .before .before .if1 .left), lt-leb _ _ (c .before .before .before .before .before .before .before .before .before .before .before .before .before .if2 .left), ← innermost-one (c .before .before .before .before .before .before .before .before .before .before .before .before .before .before .before .before .args .innermost) (c .before .before .before .before .before .before .before .before .before .before .before .before .opened .result) (c .before .before .before .before .before .before .before .before .before .before .before .before .opened .ensures)) ((c .before .before .before .before .before .before .before .run .ensures .single refl (omega arith) (one-below _ _ (c .before .before .before .before .before .before .before .before .before .before .before .before .opened .ensures))) .refused (c .if3 .taken))
+unfolding movedBy
+returns-3 c =
+    let a = c .before .before .before .before .before .before .before .before .before .before .before .before .before .before .before .before .before .args in
+    let w = fresh (a .doc) (a .position) (a .text .now) (a .skinds .now) (a .swords .now) (a .depth) in
+    let astray : isAstray (a .text .now) w (a .skinds .now) (a .swords .now) ≡ false = astray-found (a .text .now) w (a .skinds .now) (a .swords .now) _ _ _ (c .before .before .before .before .before .astray .ensures) (c .before .before .before .before .before .before .before .before .before .places .ensures) (ap (λ (l : Lexeme). l .kind) (c .before .before .before .before .before .before .top .ensures)) ∙ c .before .before .before .before .if2 .left in
+    let inside = walking-inside (a .doc) (a .position) (a .text .now) (a .skinds .now) (a .swords .now) (a .depth) astray in
+    let at = packed (a .doc) (a .position) (a .position) (c .before .before .pack2 .result .low) (c .before .before .pack2 .result .high) (omega (arith, inside, c .before .before .before .before .before .before .before .before .before .before .before .before .if1 .left)) (omega (arith, inside, c .before .before .before .before .before .before .before .before .before .before .before .before .if1 .left)) (c .before .before .pack2 .ensures) in
+    let on = walking-on (a .doc) (a .position) (a .text .now) (a .skinds .now) (a .swords .now) (a .depth) (omega (arith, c .before .before .before .before .before .before .before .before .before .before .before .before .if1 .left)) astray in
+    let ends = c .before .at-end .ensures ∙ ap (λ (s : Span). endBy s (a .depth) (entryMeant (c .before .before .before .before .before .before .top .result))) at ∙ ap (λ (l : Lexeme). endBy (span (a .doc) (a .position) (a .position)) (a .depth) l) (c .before .before .before .before .before .before .top .ensures) in
+    rw (c .stays3 .ensures) (stays-by (a .doc) (a .position) (a .depth) (a .text .now) (a .skinds .now) (a .swords .now) _ (ap (λ (x : Answer (Option Lexeme)). moved x (a .position) (a .depth)) ends ∙ sym (on ∙ rw (le-leb (length (a .text .now)) (a .position) (c .before .before .before .if3 .taken)))) (rw (c .before .at-end .ensures) (end-still _ (a .depth) _)))
+
+step-on-requires : tie.Need-step-on-requires
+step-on-requires c κs =
+    let a = c .before .before .before .before .before .before .before .before .before .before .before .before .before .before .before .before .args in
+    let w = fresh (a .doc) (a .position) (a .text .now) (a .skinds .now) (a .swords .now) (a .depth) in
+    let astray : isAstray (a .text .now) w (a .skinds .now) (a .swords .now) ≡ false = astray-found (a .text .now) w (a .skinds .now) (a .swords .now) _ _ _ (c .before .before .before .before .astray .ensures) (c .before .before .before .before .before .before .before .before .places .ensures) (ap (λ (l : Lexeme). l .kind) (c .before .before .before .before .before .top .ensures)) ∙ c .before .before .before .if2 .left in
+    record {
+      inside = omega (arith, c .before .before .if3 .left);
+      small = omega (arith, c .before .before .before .before .before .before .before .before .before .before .before .if1 .left);
+      shallow = walking-shallow (a .doc) (a .position) (a .text .now) (a .skinds .now) (a .swords .now) (a .depth) astray;
+      innermost = c .before .before .before .before .before .top .ensures;
+    }
+
+same-length-5 : tie.Need-same-length-5
+same-length-5 c = search needs
+
+same-length-6 : tie.Need-same-length-6
+same-length-6 c = search needs
 
 returns-4 : tie.Need-returns-4
-unfolding steppedAt
-returns-4 c = rw (le-ltb limit _ (c .before .before .before .before .before .before .before .before .before .before .before .before .before .before .before .if1 .left), lt-leb _ _ (c .before .before .before .before .before .before .before .before .before .before .before .before .before .before .if2 .left), ← innermost-one (c .before .before .before .before .before .before .before .before .before .before .before .before .before .before .before .before .before .args .innermost) (c .before .before .before .before .before .before .before .before .before .before .before .before .before .opened .result) (c .before .before .before .before .before .before .before .before .before .before .before .before .before .opened .ensures)) ((c .before .before .before .before .before .before .before .before .run .ensures .single refl (omega arith) (one-below _ _ (c .before .before .before .before .before .before .before .before .before .before .before .before .before .opened .ensures))) .found (c .before .if3 .left))
+returns-4 c =
+    let a = c .before .before .before .before .before .before .before .before .before .before .before .before .before .before .before .before .before .before .before .before .before .args in
+    let w = fresh (a .doc) (a .position) (a .text .now) (a .skinds .now) (a .swords .now) (a .depth) in
+    let astray : isAstray (a .text .now) w (a .skinds .now) (a .swords .now) ≡ false = astray-found (a .text .now) w (a .skinds .now) (a .swords .now) _ _ _ (c .before .before .before .before .before .before .before .before .before .astray .ensures) (c .before .before .before .before .before .before .before .before .before .before .before .before .before .places .ensures) (ap (λ (l : Lexeme). l .kind) (c .before .before .before .before .before .before .before .before .before .before .top .ensures)) ∙ c .before .before .before .before .before .before .before .before .if2 .left in
+    let on = walking-on (a .doc) (a .position) (a .text .now) (a .skinds .now) (a .swords .now) (a .depth) (omega (arith, c .before .before .before .before .before .before .before .before .before .before .before .before .before .before .before .before .if1 .left)) astray in
+    walks-by (a .doc) (a .position) (a .depth) (a .text .now) (a .skinds .now) (a .swords .now) (c .before .before .before .before .step-on .result) (c .before .before .before .before .step-on .ensures .moves ∙ rw (c .before .before .before .before .before .before .before .before .before .before .top .ensures) (sym on)) (c .before .before .before .before .step-on .ensures .coded) (c .before .before .before .before .step-on .ensures .writes)
 
 pub step-at-spec : {M : Type 1} → statement M
 step-at-spec =
     tie.close
     (tie.spec
-    refused-requires
+    pack-requires
+    refuse-requires
+    stays-requires
     returns
-    refused-requires-2
+    places-requires
+    top-requires
+    astray-requires
+    refuse-requires-2
+    stays-requires-2
+    same-length
+    same-length-2
     returns-2
-    opened-requires
-    array-write-skinds
-    add-run
-    slice-aggregate-run
-    slice-aggregate-run-2
-    slice-aggregate-run-3
-    slice-aggregate-run-4
-    run-requires
+    pack-requires-2
+    at-end-requires
+    stays-requires-3
+    same-length-3
+    same-length-4
     returns-3
+    step-on-requires
+    same-length-5
+    same-length-6
     returns-4)

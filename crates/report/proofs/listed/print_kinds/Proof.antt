@@ -16,14 +16,11 @@ loop-holds c = search needs
 get-requires : tie.Need-get-requires Inv-loop μ-loop
 get-requires c κs = search needs
 
-separate-requires : tie.Need-separate-requires Inv-loop μ-loop
-separate-requires c κs = search needs
+print-kind-requires : tie.Need-print-kind-requires Inv-loop μ-loop
+print-kind-requires c κs = search needs
 
-wide-requires : tie.Need-wide-requires Inv-loop μ-loop
-wide-requires c κs = search needs
-
-print-number-requires : tie.Need-print-number-requires Inv-loop μ-loop
-print-number-requires c κs = search needs
+returns : tie.Need-returns Inv-loop μ-loop
+returns c = search needs
 
 add-i : tie.Need-add-i Inv-loop μ-loop
 add-i c = search needs
@@ -37,8 +34,8 @@ loop-again c = search needs
 end-line-requires : tie.Need-end-line-requires Inv-loop μ-loop
 end-line-requires c κs = search needs
 
-returns : tie.Need-returns Inv-loop μ-loop
-returns c = search needs
+returns-2 : tie.Need-returns-2 Inv-loop μ-loop
+returns-2 c = search needs
 
 pub print-kinds-spec : {M : Type 1} → statement M
 print-kinds-spec =
@@ -48,11 +45,10 @@ print-kinds-spec =
     μ-loop
     loop-holds
     get-requires
-    separate-requires
-    wide-requires
-    print-number-requires
+    print-kind-requires
+    returns
     add-i
     loop-less
     loop-again
     end-line-requires
-    returns)
+    returns-2)

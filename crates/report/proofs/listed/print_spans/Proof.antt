@@ -16,11 +16,11 @@ loop-holds c = search needs
 get-requires : tie.Need-get-requires Inv-loop μ-loop
 get-requires c κs = search needs
 
-separate-requires : tie.Need-separate-requires Inv-loop μ-loop
-separate-requires c κs = search needs
-
 print-span-requires : tie.Need-print-span-requires Inv-loop μ-loop
 print-span-requires c κs = search needs
+
+returns : tie.Need-returns Inv-loop μ-loop
+returns c = search needs
 
 add-i : tie.Need-add-i Inv-loop μ-loop
 add-i c = search needs
@@ -34,8 +34,8 @@ loop-again c = search needs
 end-line-requires : tie.Need-end-line-requires Inv-loop μ-loop
 end-line-requires c κs = search needs
 
-returns : tie.Need-returns Inv-loop μ-loop
-returns c = search needs
+returns-2 : tie.Need-returns-2 Inv-loop μ-loop
+returns-2 c = search needs
 
 pub print-spans-spec : {M : Type 1} → statement M
 print-spans-spec =
@@ -45,10 +45,10 @@ print-spans-spec =
     μ-loop
     loop-holds
     get-requires
-    separate-requires
     print-span-requires
+    returns
     add-i
     loop-less
     loop-again
     end-line-requires
-    returns)
+    returns-2)

@@ -1,5 +1,4 @@
 -- The two words are those of the span, and the words of a span name that span (`span-of-words`).
-use Prim.Native.Nat.{_%_, _^_}
 use mathlib.Core.Path.{ap₂, _∙_}
 use native.Mathlib.Omega.{arith}
 use Rattle.rules.specs.Spans.{span, spanOf}
@@ -22,7 +21,7 @@ add-t12 c = search needs
 
 returns : tie.Need-returns
 returns c =
-    let s = span (c .args .doc) (c .args .start % 2 ^ 48) (c .args .end % 2 ^ 48) in
+    let s = span (c .args .doc) (c .args .start) (c .args .end) in
     ap₂ spanOf (omega arith) (omega arith) ∙ span-of-words s (omega arith) (omega arith)
 
 pub pack-spec : {M : Type 1} → statement M

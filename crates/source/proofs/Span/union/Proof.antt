@@ -37,17 +37,17 @@ most-requires : tie.Need-most-requires
 most-requires c κs = search needs
 
 pack-requires : tie.Need-pack-requires
-pack-requires c κs = search needs
+pack-requires c κs =
+    let p = c .before .before .before .before .before .before .before .before .before .args .self in
+    let q = c .before .before .before .before .before .before .before .before .before .args .other in
+    let a = start-within (p .low) (p .high) in
+    let e = end-within (p .low) (p .high) (omega arith) in
+    let f = end-within (q .low) (q .high) (omega arith) in
+    (omega arith, omega arith)
 
 returns-2 : tie.Need-returns-2
 unfolding unionOf
 returns-2 c =
-    let p = c .before .before .before .before .before .before .before .before .before .before .args .self in
-    let q = c .before .before .before .before .before .before .before .before .before .before .args .other in
-    let a = start-within (p .low) (p .high) in
-    let b = start-within (q .low) (q .high) in
-    let e = end-within (p .low) (p .high) (omega arith) in
-    let f = end-within (q .low) (q .high) (omega arith) in
     let k = c .before .before .before .before .before .before .before .before .before .together in
     rw (unless-apart, ← (k .ensures), not-false (k .result) (c .before .before .before .before .before .before .before .before .if1 .left)) (ap given (c .pack .ensures ∙ same-span (omega arith) (omega arith) (omega arith)))
 

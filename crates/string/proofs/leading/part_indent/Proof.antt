@@ -29,7 +29,7 @@ returns c = rw (other (c .before .before .args .part) (c .match .keys2))
 
 returns-2 : tie.Need-returns-2
 unfolding partIndents
-returns-2 c = rw (c .before .before .before .part .given .1) (rw (← (c .before .resolve .ensures)) (c .line-indent .ensures))
+returns-2 c = rw (c .before .before .before .part .given .1) (rw (← (c .before .resolve .ensures .0)) (c .line-indent .ensures))
 
 pub part-indent-spec : {M : Type 1} → statement M
 part-indent-spec =

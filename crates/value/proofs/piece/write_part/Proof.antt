@@ -1,6 +1,6 @@
 -- Each arm knows which part it is; a hole gives no byte (`hole-written`).
 use Prim.Native.Nat.{ℕ}
-use mathlib.Core.Path.{_≡_, refl, subst, ap, _∙_}
+use mathlib.Core.Path.{_≡_, subst, ap, _∙_}
 use mathlib.Core.Bool.{true}
 use lib.Dec.{eqb}
 use denote.Ref.{now}
@@ -8,20 +8,15 @@ use Rattle.rules.specs.Kinds.{HoleOpen, isEscape}
 use Rattle.source.specs.declared.Span.{Span}
 use Rattle.token.specs.Codes.{escapeCode}
 use Rattle.token.specs.declared.Escape.{Escape}
-use Rattle.token.specs.declared.Escape.the-variants.{Single, Unicode4, UnicodeDelim}
 use Rattle.cst.specs.Meaning.{partMeant}
 use Rattle.cst.specs.declared.StringPart.{StringPart}
 use Rattle.cst.specs.declared.StringPart.the-variants.{Escape as Part}
 use Rattle.value.specs.Pieces.{Good}
+use Rattle.cst.proofs.Told.{escape-code}
 use Rattle.value.proofs.OnePart.{hole-written}
 use borrow.Author.Needs.{needs}
 use Rattle.value.proofs.piece.write_part.Statement.{statement}
 use Rattle.value.proofs.piece.write_part.Tie as tie
-
-escape-code : (e : Escape) → isEscape (escapeCode e) ≡ true
-escape-code Single = refl
-escape-code Unicode4 = refl
-escape-code UnicodeDelim = refl
 
 escape-kind : (p : StringPart) (s : Span) (e : Escape) → p ≡ Part s e → (k : ℕ) → k ≡ escapeCode e → isEscape k ≡ true
 escape-kind p s e h k is = ap isEscape is ∙ escape-code e

@@ -21,7 +21,7 @@ returns c =
     let t = s .before .before .before .before .before in
     let text = now (t .args .text) in
     let span = spanMeant (t .args .span) in
-    let line : now (s .before .before .resolve .result) ≡ bytesAt text span = s .before .before .resolve .ensures ∙ ap partOf (checked-inside text (lexeme StringInner span) (t .pre .inside)) in
+    let line : now (s .before .before .resolve .result) ≡ bytesAt text span = s .before .before .resolve .ensures .0 ∙ ap partOf (checked-inside text (lexeme StringInner span) (t .pre .inside)) in
     let no-room : s .put-string .result ≡ false = not-true _ (c .before .if1 .taken) in
     rw (c .not-written .ensures) (string-not text (t .args .indent) span (t .args .position) (now (t .args .output)) (rw (line, no-room) at (s .put-string .ensures)))
 
@@ -31,7 +31,7 @@ add-t12 c =
     let t = s .before .before .before .before .before in
     let text = now (t .args .text) in
     let span = spanMeant (t .args .span) in
-    let line : now (s .before .before .resolve .result) ≡ bytesAt text span = s .before .before .resolve .ensures ∙ ap partOf (checked-inside text (lexeme StringInner span) (t .pre .inside)) in
+    let line : now (s .before .before .resolve .result) ≡ bytesAt text span = s .before .before .resolve .ensures .0 ∙ ap partOf (checked-inside text (lexeme StringInner span) (t .pre .inside)) in
     let whole : s .put-string .result ≡ true = not-false _ (c .before .if1 .left) in
     let put = string-put text (t .args .indent) span (t .args .position) (now (t .args .output)) (rw (line, whole) at (s .put-string .ensures)) in
     omega (arith, put .0, rw line at (c .string-length .ensures), end-limit (now (t .args .output)))
@@ -42,7 +42,7 @@ returns-2 c =
     let t = s .before .before .before .before .before in
     let text = now (t .args .text) in
     let span = spanMeant (t .args .span) in
-    let line : now (s .before .before .resolve .result) ≡ bytesAt text span = s .before .before .resolve .ensures ∙ ap partOf (checked-inside text (lexeme StringInner span) (t .pre .inside)) in
+    let line : now (s .before .before .resolve .result) ≡ bytesAt text span = s .before .before .resolve .ensures .0 ∙ ap partOf (checked-inside text (lexeme StringInner span) (t .pre .inside)) in
     let whole : s .put-string .result ≡ true = not-false _ (c .before .if1 .left) in
     let put = string-put text (t .args .indent) span (t .args .position) (now (t .args .output)) (rw (line, whole) at (s .put-string .ensures)) in
     rw (c .string-length .ensures, line) (put .1)

@@ -16,8 +16,11 @@ loop-holds c = search needs
 returns : tie.Need-returns Inv-loop μ-loop
 returns c = search needs
 
-element-copy-out-wide : tie.Need-element-copy-out-wide Inv-loop μ-loop
-element-copy-out-wide c = search needs
+returns-2 : tie.Need-returns-2 Inv-loop μ-loop
+returns-2 c = search needs
+
+shared-slice-read-wide : tie.Need-shared-slice-read-wide Inv-loop μ-loop
+shared-slice-read-wide c = search needs
 
 wide-requires : tie.Need-wide-requires Inv-loop μ-loop
 wide-requires c κs = search needs
@@ -31,8 +34,8 @@ mul-print c = search needs
 mul-print-2 : tie.Need-mul-print-2 Inv-loop μ-loop
 mul-print-2 c = search needs
 
-element-copy-out-print : tie.Need-element-copy-out-print Inv-loop μ-loop
-element-copy-out-print c = search needs
+shared-slice-read-print : tie.Need-shared-slice-read-print Inv-loop μ-loop
+shared-slice-read-print c = search needs
 
 print-requires-2 : tie.Need-print-requires-2 Inv-loop μ-loop
 print-requires-2 c κs = search needs
@@ -46,8 +49,8 @@ add-print c = search needs
 mul-print-4 : tie.Need-mul-print-4 Inv-loop μ-loop
 mul-print-4 c = search needs
 
-element-copy-out-print-2 : tie.Need-element-copy-out-print-2 Inv-loop μ-loop
-element-copy-out-print-2 c = search needs
+shared-slice-read-print-2 : tie.Need-shared-slice-read-print-2 Inv-loop μ-loop
+shared-slice-read-print-2 c = search needs
 
 print-requires-3 : tie.Need-print-requires-3 Inv-loop μ-loop
 print-requires-3 c κs = search needs
@@ -61,8 +64,8 @@ loop-less c = search needs
 loop-again : tie.Need-loop-again Inv-loop μ-loop
 loop-again c = search needs
 
-returns-2 : tie.Need-returns-2 Inv-loop μ-loop
-returns-2 c = search needs
+returns-3 : tie.Need-returns-3 Inv-loop μ-loop
+returns-3 c = search needs
 
 pub print-list-spec : {M : Type 1} → statement M
 print-list-spec =
@@ -72,19 +75,20 @@ print-list-spec =
     μ-loop
     loop-holds
     returns
-    element-copy-out-wide
+    returns-2
+    shared-slice-read-wide
     wide-requires
     print-requires
     mul-print
     mul-print-2
-    element-copy-out-print
+    shared-slice-read-print
     print-requires-2
     mul-print-3
     add-print
     mul-print-4
-    element-copy-out-print-2
+    shared-slice-read-print-2
     print-requires-3
     add-i
     loop-less
     loop-again
-    returns-2)
+    returns-3)

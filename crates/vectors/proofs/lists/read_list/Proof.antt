@@ -1,7 +1,6 @@
--- As many entries are counted as both arrays have room for; the arrays keep their lengths.
+-- An entry is written where both arrays have room for it; they keep their lengths.
 use native.Mathlib.Omega.{arith}
 use mathlib.Core.Path.{_≡_}
-use Rattle.vectors.proofs.Lent.{counts}
 use Prim.Native.Nat.{_≤_, _-_, _*_}
 use lib.ListN.{length, length-set}
 use borrow.Author.Needs.{needs}
@@ -24,7 +23,7 @@ same-length-2 : tie.Need-same-length-2 Inv-loop μ-loop
 same-length-2 c = search needs
 
 returns : tie.Need-returns Inv-loop μ-loop
-returns c = (counts _ _ (c .before .before .loop .inv .0), counts _ _ (c .before .before .loop .inv .1))
+returns c = search needs
 
 same-length-3 : tie.Need-same-length-3 Inv-loop μ-loop
 same-length-3 c = search needs
@@ -33,7 +32,7 @@ same-length-4 : tie.Need-same-length-4 Inv-loop μ-loop
 same-length-4 c = search needs
 
 returns-2 : tie.Need-returns-2 Inv-loop μ-loop
-returns-2 c = (counts _ _ (c .before .before .before .loop .inv .0), counts _ _ (c .before .before .before .loop .inv .1))
+returns-2 c = search needs
 
 end-of-requires : tie.Need-end-of-requires Inv-loop μ-loop
 end-of-requires c κs = search needs
@@ -105,7 +104,7 @@ same-length-6 : tie.Need-same-length-6 Inv-loop μ-loop
 same-length-6 c = search needs
 
 returns-3 : tie.Need-returns-3 Inv-loop μ-loop
-returns-3 c = (counts _ _ (c .before .loop .inv .0), counts _ _ (c .before .loop .inv .1))
+returns-3 c = search needs
 
 pub read-list-spec : {M : Type 1} → statement M
 read-list-spec =

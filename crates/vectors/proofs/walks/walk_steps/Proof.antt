@@ -21,8 +21,8 @@ slice-aggregate-write-all c = search needs
 write-all-requires : tie.Need-write-all-requires Inv-loop μ-loop
 write-all-requires c κs = search needs
 
-step-at-requires : tie.Need-step-at-requires Inv-loop μ-loop
-step-at-requires c κs = search needs
+step-from-requires : tie.Need-step-from-requires Inv-loop μ-loop
+step-from-requires c κs = search needs
 
 print-step-requires : tie.Need-print-step-requires Inv-loop μ-loop
 print-step-requires c κs = search needs
@@ -54,7 +54,7 @@ walk-steps-spec =
     loop-holds
     slice-aggregate-write-all
     write-all-requires
-    step-at-requires
+    step-from-requires
     print-step-requires
     add-i
     loop-less
