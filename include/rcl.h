@@ -1,5 +1,7 @@
 /* RCL text: the exported calls of crates/rcl, each proved to answer as its contract says. No call allocates, keeps a pointer or reads beyond the lengths that it is given. Arrays that
    are lent to one call must not overlap. In every result a flag is 0 or 1, and a word that says nothing is 0.
+   Each length is the array's true length, in elements. A pointer may be NULL where its length is 0. For a text of n bytes, n places of list and of stack, 2n bytes for rcl_tidy and n bytes behind the
+   position for rcl_value are always enough (of a list that rcl_lex made).
    `enum rcl_kind` names the kind codes, and RCL_SPAN_START, RCL_SPAN_END and RCL_SPAN_DOC read a span's two words. */
 #ifndef RCL_H
 #define RCL_H
@@ -179,7 +181,7 @@ rcl_tidied rcl_tidy(uint32_t doc, const uint8_t *text, uintptr_t len,
                     uint8_t *stack_kinds, uintptr_t stack_kinds_len, uint64_t *stack_words, uintptr_t stack_words_len,
                     uint8_t *output, uintptr_t output_len);
 
-/* What a walker keeps that is opened with a text: a refusal 2 or 1, which it gives at every step; else all 0. */
+/* What a walker keeps that is opened with a text: a refusal 2 (at 0-0) or 1 (with the empty span where the bad sequence begins), which it gives at every step; else all 0. */
 typedef struct rcl_walker {
     uint64_t refused, number, low, high;
 } rcl_walker;
@@ -195,9 +197,11 @@ typedef struct rcl_stepped {
     uint64_t position, depth;    /* where the walker stands after it: as before where it ended or was refused */
 } rcl_stepped;
 
-/* One step of a walker that stands at `position` with `depth` openers on its stack, as it began with 0 and 0; `kept` to `kept_high` are what rcl_walker_open answered (0: nothing kept).
+/* One step of a walker that stands at `position` with `depth` openers on its stack, as it began with 0 and 0; `kept` to `kept_high` are the four words that rcl_walker_open
+   answered for this document (all 0: nothing kept). Words that it answers for no text with this id are refused.
    A Space (RCL_SPACE) is a lexeme here. Only an opener is written to the stack, at the place numbered by the depth before it; a refused step changes nothing.
-   Refusals, in this order: the kept one; 2; 40 at 0-0 where the position is past the end, the depth above the stack's places or the innermost code no opener's; 25 to 28 at the end; 10 to 24 of the text; 30. */
+   Refusals, in this order: the kept one; 2; 40 at 0-0 where `kept` to `kept_high` are such words, the position is past the end, the depth above the stack's places or the innermost code no opener's;
+   25 to 28 at the end; 10 to 24 of the text; 30. */
 rcl_stepped rcl_walker_step(uint32_t doc, const uint8_t *text, uintptr_t len, uintptr_t position, uintptr_t depth,
                             uint64_t kept, uint8_t kept_number, uint64_t kept_low, uint64_t kept_high,
                             uint8_t *stack_kinds, uintptr_t stack_kinds_len, uint64_t *stack_words, uintptr_t stack_words_len);

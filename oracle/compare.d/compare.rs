@@ -12,6 +12,7 @@ mod strings;
 mod subject;
 mod tally;
 mod tidy;
+mod told;
 mod utf8;
 mod values;
 mod walker;

@@ -156,8 +156,8 @@ impl Room {
 
     /// A step from this state, whose text and stack are in the room.
     pub fn step(&mut self, state: &State) -> Stepped {
-        let State { doc, before, kept, kept_number, kept_at, .. } = *state;
+        let State { doc, before, told, .. } = *state;
         call!(self, rcl_walker_step, doc.0, [text], before.position, before.depth,
-            kept, kept_number, kept_at.low, kept_at.high, [[stack]])
+            told.kept, told.number, told.at.low, told.at.high, [[stack]])
     }
 }

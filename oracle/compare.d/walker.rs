@@ -4,19 +4,22 @@
 use crate::calls::{Stepped, Walker};
 use crate::room::Room;
 use crate::subject::{texts, Subject};
+use crate::told::Faults;
 use judge::arguments::Arguments;
 use judge::generate::any_doc;
 use judge::generate::random::Random;
 use judge::generate::states::{State, States};
 use judge::refusal::Refusal;
 use judge::report::{quoted, Ends, Report};
+use judge::walker::told::Keeps;
 use judge::walker::{self, opened, walk, Given, Place, Stack, Walked};
 
 /// Each walk goes on for so many steps after the one that ended it.
 const PAST_THE_END: usize = 3;
 
-/// So many states by hand for each text.
-const STATES: usize = 2;
+/// So many states by hand for each text, and for each length over the limit.
+const STATES: usize = 4;
+const STATES_TOO_LONG: usize = 200;
 
 // The stack.
 
@@ -55,6 +58,8 @@ struct Answers {
     /// Refusals given because they were kept.
     kept: Ends,
     refused: Ends,
+    /// Among the refused: what they were told is nothing that a walker can keep.
+    told: Faults,
 }
 
 impl Answers {
@@ -64,15 +69,20 @@ impl Answers {
             ended: 0,
             kept: Ends::new(),
             refused: Ends::new(),
+            told: Faults::new(),
         }
     }
 
     fn add(&mut self, state: &State, given: Given) {
-        match given {
-            Given::Lexeme(_) => self.lexemes += 1,
-            Given::Ended => self.ended += 1,
-            Given::Refused(refusal) if state.kept == 0 => self.refused.add_number(refusal.number),
-            Given::Refused(refusal) => self.kept.add_number(refusal.number),
+        let keeps = state.told.keeps(state.doc);
+        if keeps == Keeps::Wrong {
+            self.told.add(state.told, state.doc);
+        }
+        match (given, keeps) {
+            (Given::Lexeme(_), _) => self.lexemes += 1,
+            (Given::Ended, _) => self.ended += 1,
+            (Given::Refused(_), Keeps::Refusal(kept)) => self.kept.add_number(kept.number),
+            (Given::Refused(refusal), _) => self.refused.add_number(refusal.number),
         }
     }
 
@@ -80,9 +90,11 @@ impl Answers {
         println!("lexemes: {}", self.lexemes);
         println!("ended: {}", self.ended);
         println!("kept refusals given: {}", self.kept.all());
+        self.kept.print_refusals(1..=2);
         println!("others refused: {}", self.refused.all());
         let numbers = [2].into_iter().chain(10..=28).chain([30, 40]);
         self.refused.print_refusals(numbers);
+        self.told.print();
     }
 }
 
@@ -140,7 +152,7 @@ impl Comparison {
         for number in 0..=last + PAST_THE_END {
             let published = answers[number.min(last)];
             let before = state.before;
-            let answer = walked.step(state.kept(), before, &mut state.stack);
+            let answer = walked.step(state.told, before, &mut state.stack);
             assert_eq!(answer, published, "Step {number} of a walk: {state:?}");
             if !self.compare_step(&state, &answer) {
                 return;
@@ -170,15 +182,15 @@ impl Comparison {
         for subject in Subject::too_long(&mut self.random) {
             subject.lend(&mut self.random, &mut self.room);
             self.compare_opening(&subject, subject.trace.refusal);
-            let state = State {
-                text: subject.text,
-                doc: subject.doc,
-                kept: 0,
-                ..states.next_state()
-            };
-            lend_stack(&mut self.room, &mut self.random, &state.stack);
-            let answer = walker::too_long(state.doc, state.before);
-            self.compare_step(&state, &answer);
+            for _ in 0..STATES_TOO_LONG {
+                let state = State {
+                    text: subject.text.clone(),
+                    ..states.next_state()
+                };
+                lend_stack(&mut self.room, &mut self.random, &state.stack);
+                let answer = walker::too_long(state.doc, state.told, state.before);
+                self.compare_step(&state, &answer);
+            }
         }
     }
 
@@ -206,8 +218,7 @@ impl Comparison {
         self.report.calls = self.room.calls;
         self.report.ends = self.openings;
         self.report.ends.add_all(&self.answers.refused);
-        // By hand any number is kept, but an opening keeps these.
-        self.report.ends.add_some(&self.answers.kept, 1..=2);
+        self.report.ends.add_all(&self.answers.kept);
         self.report
     }
 }
@@ -217,11 +228,11 @@ impl Comparison {
 /// must agree.
 fn answer_by_hand(state: &mut State) -> walker::Stepped {
     let mut again = state.stack.clone();
-    let kept = state.kept();
+    let told = state.told;
     let walked = Walked::new(&state.text, state.doc);
-    let answer = walked.step(kept, state.before, &mut state.stack);
+    let answer = walked.step(told, state.before, &mut state.stack);
     let walked = Walked::without_utf8(&state.text, state.doc);
-    let other = walked.step(kept, state.before, &mut again);
+    let other = walked.step(told, state.before, &mut again);
     assert_eq!(answer, other, "With and without UTF-8: {state:?}");
     assert_eq!(state.stack, again, "With and without UTF-8: {state:?}");
     answer
@@ -229,9 +240,8 @@ fn answer_by_hand(state: &mut State) -> walker::Stepped {
 
 fn named(state: &State) -> String {
     let (id, at) = (state.doc.0, state.before);
-    let kept = (state.kept, state.kept_number, state.kept_at);
-    let (text, stack) = (quoted(&state.text), &state.stack);
-    format!("{text}, id {id}, {at:?}, kept {kept:?}, after it {stack:?}")
+    let (text, told, stack) = (quoted(&state.text), state.told, &state.stack);
+    format!("{text}, id {id}, {at:?}, {told:?}, after it {stack:?}")
 }
 
 pub fn run(arguments: &Arguments) -> Report {

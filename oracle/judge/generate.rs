@@ -17,6 +17,7 @@ pub mod spaced;
 pub mod states;
 pub mod strings;
 pub mod tallies;
+mod told;
 pub mod utf8;
 
 use crate::source::DocId;

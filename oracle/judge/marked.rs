@@ -12,6 +12,7 @@ use crate::strings::hand::{handed, handed_or_empty};
 use crate::strings::value::Held;
 use crate::strings::{Refused, Words, LONGEST, NOWHERE};
 use crate::tally::Tally;
+use crate::walker::told::Told;
 use crate::walker::{opened, walk, Given, Place, Stack, Stepped, Walked};
 
 const DOC: DocId = DocId(7);
@@ -218,7 +219,7 @@ fn stack_of(kinds: &[u8]) -> Stack {
 /// One step with nothing kept: the kind or the refusal's number and its span, and where
 /// the walker then stands.
 fn stepped(text: &[u8], before: Place, stack: &mut Stack) -> (u8, Option<Span>, Place) {
-    let Stepped { given, after } = Walked::new(text, DOC).step(None, before, stack);
+    let Stepped { given, after } = Walked::new(text, DOC).step(Told::default(), before, stack);
     match given {
         Given::Lexeme(lexeme) => (lexeme.code, Some(lexeme.span), after),
         Given::Ended => (0, None, after),
@@ -269,7 +270,7 @@ fn walking_from_any_state() {
     let kept = opened(text, DOC);
     assert_eq!(kept, Some(Refusal::plain(1, span(1, 1))));
     let before = place(9, 9);
-    let given = Walked::new(text, DOC).step(kept, before, &mut stack_of(&[]));
+    let given = Walked::new(text, DOC).step(Told::of(kept), before, &mut stack_of(&[]));
     assert_eq!(given.given, Given::Refused(kept.unwrap()));
     assert_eq!(given.after, before);
     let mut stack = stack_of(&[5]);
@@ -277,11 +278,50 @@ fn walking_from_any_state() {
     assert_eq!(escape, (22, Some(span(0, 2)), place(0, 1)));
     let outside = stepped(text, place(1, 0), &mut stack);
     assert_eq!(outside, (11, Some(span(1, 2)), place(1, 0)));
-    let given = Walked::new(text, DOC).step(None, place(3, 1), &mut stack);
+    let given = Walked::new(text, DOC).step(Told::default(), place(3, 1), &mut stack);
     let refusal = Refusal {
         number: 27,
         span: span(3, 3),
         note: Some(words::to_span(1, 2)),
     };
     assert_eq!(given.given, Given::Refused(refusal));
+}
+
+/// The walker "keeps a refusal 2 or 1": what it is told has to be one of these, or nothing.
+#[test]
+fn told_what_a_walker_keeps() {
+    let at = |start, end| Words::new(DOC.0, start, end);
+    let given = |kept, number, at| {
+        let told = Told { kept, number, at };
+        Walked::new(b"(", DOC).step(told, place(0, 0), &mut stack_of(&[]))
+    };
+    let right = |number, start: usize| {
+        let refusal = Refusal::plain(number, span(start, start));
+        let stepped = given(1, number, at(start as u64, start as u64));
+        assert_eq!(stepped.given, Given::Refused(refusal));
+    };
+    right(2, 0);
+    right(1, 0);
+    right(1, LONGEST as usize);
+    let wrong = |kept, number, at| {
+        let stepped = given(kept, number, at);
+        let refusal = Refusal::at_start(40, DOC);
+        assert_eq!(stepped.given, Given::Refused(refusal));
+        assert_eq!(stepped.after, place(0, 0));
+    };
+    for number in [0, 3, 40, 99, 255] {
+        wrong(1, number, at(0, 0));
+    }
+    for kept in [0, 2, u64::MAX] {
+        wrong(kept, 1, at(0, 0));
+    }
+    for (low, high) in [(1, 0), (0, 1)] {
+        wrong(0, 0, Words { low, high });
+    }
+    wrong(1, 2, NOWHERE);
+    wrong(1, 1, at(0, 1));
+    wrong(1, 1, at(1, 0));
+    wrong(0, 0, at(0, 0));
+    wrong(1, 2, at(1, 1));
+    wrong(1, 1, Words::new(DOC.0 + 1, 0, 0));
 }

@@ -1,6 +1,8 @@
 //! The walker, as document 01 says it: what opening keeps, and one step from any position
-//! and depth with any stack, also such as no walk reaches. The lexeme at a position is the
-//! published lexer's.
+//! and depth with any stack and whatever it is told that was kept, also such as no walk
+//! reaches. The lexeme at a position is the published lexer's.
+
+pub mod told;
 
 use std::borrow::Cow;
 
@@ -9,6 +11,7 @@ use crate::lexer::steps;
 use crate::reference::{checked, Listed, Trace, LONGEST};
 use crate::refusal::{of_lexing, Refusal};
 use crate::source::{words, DocId, Span};
+use told::{Keeps, Told};
 
 /// Where a walker stands.
 #[derive(Copy, Clone, Debug, Default, Eq, PartialEq)]
@@ -37,10 +40,14 @@ pub fn opened(text: &[u8], doc: DocId) -> Option<Refusal> {
     checked(text, doc).err()
 }
 
-/// A step in a text over the limit, with nothing kept: refusal 2.
-pub fn too_long(doc: DocId, before: Place) -> Stepped {
+/// A step in a text over the limit: the kept refusal, else 2.
+pub fn too_long(doc: DocId, told: Told, before: Place) -> Stepped {
+    let refusal = match told.keeps(doc) {
+        Keeps::Refusal(kept) => kept,
+        Keeps::Nothing | Keeps::Wrong => Refusal::at_start(2, doc),
+    };
     Stepped {
-        given: Given::Refused(Refusal::at_start(2, doc)),
+        given: Given::Refused(refusal),
         after: before,
     }
 }
@@ -112,29 +119,28 @@ impl<'a> Walked<'a> {
     }
 
     /// One step. Only an opener writes to the stack, and a refused step changes nothing.
-    pub fn step(&self, kept: Option<Refusal>, before: Place, stack: &mut Stack) -> Stepped {
+    pub fn step(&self, told: Told, before: Place, stack: &mut Stack) -> Stepped {
+        if self.text.len() > LONGEST {
+            return too_long(self.doc, told, before);
+        }
         let stay = |given| Stepped {
             given,
             after: before,
         };
-        match self.taken(kept, before, stack) {
+        match self.taken(told, before, stack) {
             Err(refusal) => stay(Given::Refused(refusal)),
             Ok(None) => stay(Given::Ended),
             Ok(Some(lexeme)) => advanced(lexeme, before, stack),
         }
     }
 
-    /// The lexeme of the step, none at the end. In this order: the kept refusal, 2, 40,
-    /// the end, the text's refusals, 30.
-    fn taken(
-        &self,
-        kept: Option<Refusal>,
-        before: Place,
-        stack: &Stack,
-    ) -> Result<Option<Listed>, Refusal> {
-        kept.map_or(Ok(()), Err)?;
-        if self.text.len() > LONGEST {
-            return Err(Refusal::at_start(2, self.doc));
+    /// The lexeme of the step, none at the end; the text is not over the limit. In this
+    /// order: the kept refusal, 40, the end, the text's refusals, 30.
+    fn taken(&self, told: Told, before: Place, stack: &Stack) -> Result<Option<Listed>, Refusal> {
+        match told.keeps(self.doc) {
+            Keeps::Nothing => (),
+            Keeps::Refusal(kept) => return Err(kept),
+            Keeps::Wrong => return Err(Refusal::at_start(40, self.doc)),
         }
         let innermost = self.innermost(before, stack)?;
         let lexeme = self.lexeme(before.position, innermost)?;

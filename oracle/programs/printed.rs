@@ -19,19 +19,23 @@ const LIST: usize = 1024;
 const STACK: usize = 64;
 const TIDIED_BYTES: usize = 65536;
 
-/// What a program writes.
+/// What a program writes to standard output and to standard error.
 #[derive(Eq, PartialEq)]
-struct Printed(Vec<u8>);
+struct Printed {
+    output: Vec<u8>,
+    errors: Vec<u8>,
+}
 
 impl Damage for Printed {
     fn damage(&mut self) {
-        self.0.push(b'.');
+        self.output.push(b'.');
     }
 }
 
 impl std::fmt::Debug for Printed {
     fn fmt(&self, to: &mut std::fmt::Formatter) -> std::fmt::Result {
-        write!(to, "`{}`", self.0.escape_ascii())
+        let (output, errors) = (self.output.escape_ascii(), self.errors.escape_ascii());
+        write!(to, "`{output}`, on standard error `{errors}`")
     }
 }
 
@@ -60,7 +64,14 @@ fn line(listed: &[Listed], entry: impl Fn(&Listed) -> String) -> String {
     entries.join(" ") + "\n"
 }
 
-fn listing(text: &[u8], answer: &Answer) -> String {
+fn listing(text: &[u8], answer: &Answer) -> Printed {
+    Printed {
+        output: listing_lines(text, answer).into_bytes(),
+        errors: Vec::new(),
+    }
+}
+
+fn listing_lines(text: &[u8], answer: &Answer) -> String {
     let Some(refusal) = &answer.refusal else {
         let c = &answer.counts;
         let (bytes, lexemes, deepest) = (text.len(), c.lexemes, c.deepest);
@@ -74,33 +85,46 @@ fn listing(text: &[u8], answer: &Answer) -> String {
     refused_line(refusal)
 }
 
-fn tidied(text: &[u8], answer: &Answer) -> Vec<u8> {
+/// A refusal's line goes to standard error, so that what is kept of standard output is never taken for a text.
+fn tidied(text: &[u8], answer: &Answer) -> Printed {
     match &answer.refusal {
-        Some(refusal) => refused_line(refusal).into_bytes(),
-        None => respaced(text, &answer.listed),
+        Some(refusal) => Printed {
+            output: Vec::new(),
+            errors: refused_line(refusal).into_bytes(),
+        },
+        None => Printed {
+            output: respaced(text, &answer.listed),
+            errors: Vec::new(),
+        },
     }
 }
 
 // What is written.
 
-/// The program's output on a text. It may stop reading before the text ends, at its limit.
+fn all_of(mut from: impl Read) -> Vec<u8> {
+    let mut bytes = Vec::new();
+    from.read_to_end(&mut bytes).expect("It can be read.");
+    bytes
+}
+
+/// What the program writes on a text. It may stop reading before the text ends, at its limit; what it writes to standard error is short.
 fn run(program: &str, text: &[u8]) -> Printed {
     let mut child = Command::new(program)
         .stdin(Stdio::piped())
         .stdout(Stdio::piped())
+        .stderr(Stdio::piped())
         .spawn()
         .expect("The program can be started.");
     let mut input = child.stdin.take().expect("Its input is a pipe.");
     let _ = input.write_all(text);
     drop(input);
-    let mut bytes = Vec::new();
-    let mut output = child.stdout.take().expect("Its output is a pipe.");
-    output
-        .read_to_end(&mut bytes)
-        .expect("Its output can be read.");
+    let printed = Printed {
+        output: all_of(child.stdout.take().expect("Its output is a pipe.")),
+        errors: all_of(child.stderr.take().expect("Its errors are a pipe.")),
+    };
     let status = child.wait().expect("It ends.");
     assert!(status.success(), "{program} ended with {status}");
-    Printed(bytes)
+    printed
 }
 
 // The comparison.
@@ -117,11 +141,11 @@ impl Comparison {
     fn compare(&mut self, text: &[u8]) {
         let answer = limited(text, LISTED_BYTES, LIST, STACK);
         self.listings.add(&answer);
-        let expected = Printed(listing(text, &answer).into_bytes());
+        let expected = listing(text, &answer);
         self.one(text, "listing", expected, run(&self.listing, text));
         let answer = limited(text, TIDIED_BYTES, AMPLE, AMPLE);
         self.tidyings.add(&answer);
-        let expected = Printed(tidied(text, &answer));
+        let expected = tidied(text, &answer);
         self.one(text, "tidy", expected, run(&self.tidy, text));
     }
 

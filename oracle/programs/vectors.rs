@@ -9,11 +9,16 @@ use std::fs::File;
 use std::io::{BufWriter, Write};
 
 use judge::generate::random::Random;
-use judge::generate::{fixed, nested, rfc8259, utf8, Texts};
-use judge::reference::{trace, within, Answer, Counts, Listed};
+use judge::generate::{fixed, nested, rfc8259, tallies, utf8, Texts};
+use judge::reference::{trace, within, Counts};
 use judge::source::{words, DocId, Span};
-use strings::tidy::{verdict_and_counts, written};
-use strings::{hexadecimal, Line};
+use judge::strings::hand::handed;
+use judge::strings::value::valued;
+use judge::strings::{entries, is_quote_open, Entry};
+use judge::tally::Tally;
+use strings::lent::MARK;
+use strings::tidy::{written, written_lent, written_lexed};
+use strings::{hexadecimal, written_value, Line};
 
 const MADE: &str =
     "# Made by oracle/vectors from the published Rust (ruuda/rcl, 9f705cc6dd), its std and document 01.";
@@ -27,6 +32,8 @@ fn main() {
     lines.extend(utf8_texts().iter().map(|text| utf8_line(text)));
     lines.extend(span_lines());
     lines.extend(lex_lines());
+    lines.extend(tally_lines());
+    lines.extend(document_lines());
     lines.extend(string_lines());
     lines.extend(walk_lines());
     let lines = without_repeats(lines);
@@ -301,10 +308,10 @@ fn lex_lines() -> Vec<Line> {
     lines
 }
 
-/// Document 01's examples, the texts of its readings, each refusal, and RFC 8259.
+/// Document 01's examples, the texts of its readings, each refusal, and RFC 8259's forms.
 fn chosen_texts() -> Vec<Vec<u8>> {
     let mut texts = fixed::texts();
-    texts.extend(rfc8259::short_texts(LONGEST_TEXT));
+    texts.extend(rfc8259::forms());
     texts
 }
 
@@ -357,18 +364,112 @@ fn lex_line(doc: DocId, list: usize, stack: usize, text: &[u8]) -> Option<Line> 
         return None;
     }
     let answer = within(&trace(text, doc), list, stack);
-    let bytes = hexadecimal(text);
-    let call = format!("lex {} {list} {stack} {bytes}", doc.0);
-    Some((call, written_answer(&answer)))
+    let (lent, bytes) = (written_lent(text, list, stack), hexadecimal(text));
+    let call = format!("lex {} {lent} {bytes}", doc.0);
+    Some((call, written_lexed(&answer)))
 }
 
-fn written_answer(answer: &Answer) -> String {
-    let listed: String = answer.listed.iter().map(written_lexeme).collect();
-    format!("{} ;{listed}", verdict_and_counts(answer))
+// The tally.
+
+/// So many texts are tallied one after the other from nothing on, and so many from near
+/// 2^64 - 1 on; so many have a tally by hand.
+const TALLIED: usize = 24;
+const STOPPING: Tally = Tally {
+    accepted: u64::MAX - 5,
+    refused: u64::MAX - 5,
+    steps: u64::MAX - 40,
+};
+
+fn tally_lines() -> Vec<Line> {
+    let mut random = Random::new(SEED + 6);
+    let mut texts = Texts::without_fixed(SEED + 6, SHORT_TEXT);
+    let mut lines = Vec::new();
+    for start in [Tally::default(), STOPPING] {
+        let mut tally = start;
+        for text in texts.by_ref().take(TALLIED) {
+            let (line, after) = tally_line(&mut random, tally, &text);
+            lines.push(line);
+            tally = after;
+        }
+    }
+    for text in texts.take(TALLIED) {
+        let steps = trace(&text, DocId(0)).taken.len();
+        let tally = tallies::tally(&mut random, steps);
+        lines.push(tally_line(&mut random, tally, &text).0);
+    }
+    lines
 }
 
-fn written_lexeme(listed: &Listed) -> String {
-    format!(" {} {}", listed.code, written(listed.span))
+/// One call, with ample memory or with little, and the tally after it.
+fn tally_line(random: &mut Random, before: Tally, text: &[u8]) -> (Line, Tally) {
+    let doc = doc(random);
+    let trace = trace(text, doc);
+    let needed = within(&trace, MOST_LISTED, MOST_OPEN).counts;
+    let (list, stack) = match random.once_in(LITTLE_ONCE_IN) {
+        true => little(random, needed),
+        false => (MOST_LISTED, MOST_OPEN),
+    };
+    let answer = within(&trace, list, stack);
+    let after = before.after(&answer);
+    let (lent, bytes) = (written_lent(text, list, stack), hexadecimal(text));
+    let line = (
+        format!("tally {} {} {lent} {bytes}", written_tally(before), doc.0),
+        format!("{} ; {}", written_lexed(&answer), written_tally(after)),
+    );
+    (line, after)
+}
+
+fn written_tally(tally: Tally) -> String {
+    let Tally {
+        accepted,
+        refused,
+        steps,
+    } = tally;
+    format!("{accepted} {refused} {steps}")
+}
+
+// Whole documents.
+
+/// What a document is lexed and its strings are read into.
+const DOCUMENT_LISTED: usize = 168;
+const DOCUMENT_OPEN: usize = 72;
+const DOCUMENT_PARTS: usize = 48;
+const DOCUMENT_OUTPUT: usize = 72;
+const LONGEST_DOCUMENT: usize = 640;
+
+/// RFC 8259's documents and its other examples.
+fn document_lines() -> Vec<Line> {
+    let texts = rfc8259::texts();
+    let docs = DOCS.iter().cycle();
+    let line = |(text, doc): (&Vec<u8>, &u32)| document_line(DocId(*doc), text);
+    texts.iter().zip(docs).map(line).collect()
+}
+
+fn document_line(doc: DocId, text: &[u8]) -> Line {
+    assert!(text.len() <= LONGEST_DOCUMENT, "The program has room for it.");
+    let answer = within(&trace(text, doc), DOCUMENT_LISTED, DOCUMENT_OPEN);
+    let list = entries(&answer.listed);
+    let openers = (0..list.len()).filter(|place| is_quote_open(list[*place].kind));
+    let value = |place| format!(" ; {place} {}", string_of_document(text, &list, place));
+    let values: String = openers.map(value).collect();
+    (
+        format!("document {} {}", doc.0, hexadecimal(text)),
+        format!("{}{values}", written_lexed(&answer)),
+    )
+}
+
+/// The value, and the bytes that are handed back.
+fn string_of_document(text: &[u8], list: &[Entry], place: usize) -> String {
+    let mut output = [MARK; DOCUMENT_OUTPUT];
+    let value = valued(text, list, place, DOCUMENT_PARTS, &mut output, 0).value;
+    let written = written_value(&value);
+    match value {
+        Ok(part) => {
+            let bytes = handed(text, &output, part).expect("A value can be handed back.");
+            format!("{written} {}", hexadecimal(bytes))
+        }
+        Err(_) => written,
+    }
 }
 
 // Strings.

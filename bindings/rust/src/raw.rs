@@ -1,7 +1,7 @@
 //! The exported calls and structs of include/rcl.h, which documents each of them; this is
 //! the one place where they stand in Rust. Every call is unsafe: each pointer must be that
-//! of a live array with at least the length passed beside it, and an array that is written
-//! must overlap no other.
+//! of a live array with at least the length passed beside it, or may be null where that is 0,
+//! and an array that is written must overlap no other.
 
 // What each of them is stands in include/rcl.h.
 #![allow(missing_docs)]

@@ -87,7 +87,7 @@ pub const EXPLANATIONS: [(u8, &str); 32] = [
     (28, "end reached in a format string"),
     (30, "opener and full stack"),
     (31, "entry and full list"),
-    (40, "wrong kind code or form, or span outside the text; a walker's step: wrong position, depth or stack"),
+    (40, "wrong kind code or form, or span outside the text; a walker's step: wrong position, depth, stack or kept refusal"),
     (41, "other byte after `\\`"),
     (42, "A to Z after `\\`"),
     (43, "`\\u{}`"),

@@ -123,27 +123,7 @@ pub fn texts() -> Vec<Vec<u8>> {
     all.map(|text| text.as_bytes().to_vec()).collect()
 }
 
-/// The same, but the documents in pieces of whole lines, each as long as
-/// `longest` bytes allow and one beginning at every line.
-pub fn short_texts(longest: usize) -> Vec<Vec<u8>> {
-    let pieces = DOCUMENTS.iter().flat_map(|text| pieces(text, longest));
-    let forms = FORMS.iter().map(|text| text.as_bytes().to_vec());
-    forms.chain(pieces).collect()
-}
-
-fn pieces(text: &str, longest: usize) -> Vec<Vec<u8>> {
-    let lines: Vec<&str> = text.split_inclusive('\n').collect();
-    let from = |at: usize| piece(&lines[at..], longest);
-    (0..lines.len()).map(from).collect()
-}
-
-fn piece(lines: &[&str], longest: usize) -> Vec<u8> {
-    let mut out = Vec::new();
-    for line in lines {
-        if out.len() + line.len() > longest {
-            break;
-        }
-        out.extend_from_slice(line.as_bytes());
-    }
-    out
+/// The forms alone.
+pub fn forms() -> Vec<Vec<u8>> {
+    FORMS.iter().map(|text| text.as_bytes().to_vec()).collect()
 }

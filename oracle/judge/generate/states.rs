@@ -1,13 +1,16 @@
 //! States of a walker made by hand: positions inside, at and past the end of the text, any
-//! depth, stacks with any codes and words, kept refusals. Most are such as no walk reaches.
+//! depth, stacks with any codes and words, and what a walker is told that it keeps. Most are
+//! such as no walk reaches.
 
 use super::accepted::Supply;
 use super::any_doc;
 use super::random::Random;
+use super::told::any_told;
 use crate::lent::{lengths, Lengths};
 use crate::refusal::Refusal;
-use crate::source::{words, DocId};
+use crate::source::DocId;
 use crate::strings::{Words, LONGEST};
+use crate::walker::told::Told;
 use crate::walker::{Place, Stack};
 
 /// What a step is given.
@@ -16,10 +19,7 @@ pub struct State {
     pub text: Vec<u8>,
     pub doc: DocId,
     pub before: Place,
-    /// 0 where nothing is kept, whatever the others are.
-    pub kept: u64,
-    pub kept_number: u8,
-    pub kept_at: Words,
+    pub told: Told,
     pub stack: Stack,
 }
 
@@ -32,22 +32,13 @@ impl State {
         before: Place,
         stack: Stack,
     ) -> State {
-        let (low, high) = kept.map_or((0, 0), |refusal| words::of(refusal.span));
         State {
             text: text.to_vec(),
             doc,
             before,
-            kept: kept.is_some() as u64,
-            kept_number: kept.map_or(0, |refusal| refusal.number),
-            kept_at: Words { low, high },
+            told: Told::of(kept),
             stack,
         }
-    }
-
-    pub fn kept(&self) -> Option<Refusal> {
-        let Words { low, high } = self.kept_at;
-        let refusal = Refusal::plain(self.kept_number, words::to_span(low, high));
-        (self.kept != 0).then_some(refusal)
     }
 }
 
@@ -78,19 +69,13 @@ impl States {
             position: self.position(text.len(), looked_at),
             depth: self.depth(places),
         };
-        let (kept, kept_number) = self.kept();
-        let kept_at = match kept == 0 && kept_number == 0 {
-            true => Words::default(),
-            false => self.words(&text, doc),
-        };
+        let told = any_told(&mut self.random, text.len(), doc);
         let stack = self.stack(&text, doc, lengths);
         State {
             text,
             doc,
             before,
-            kept,
-            kept_number,
-            kept_at,
+            told,
             stack,
         }
     }
@@ -137,20 +122,6 @@ impl States {
             4..=9 => 0,
             10..=19 => places,
             _ => self.random.below(places + 1),
-        }
-    }
-
-    /// Mostly nothing, but then with words that do not count now and then.
-    fn kept(&mut self) -> (u64, u8) {
-        let number = match self.random.below(4) {
-            0 => self.random.byte(),
-            _ => self.random.between(1, 2) as u8,
-        };
-        match self.random.below(24) {
-            0 => (1, number),
-            1 => (self.random.next().max(1), number),
-            2 | 3 => (0, number),
-            _ => (0, 0),
         }
     }
 

@@ -4,6 +4,7 @@
 #![allow(dead_code)]
 
 pub mod hand;
+pub mod lent;
 pub mod theorems;
 pub mod tidy;
 
@@ -20,13 +21,14 @@ use judge::strings::value::{Held, Valued};
 use judge::strings::{counted, is_escape, is_quote_open, Entry, Result, LONGEST};
 
 use hand::Hand;
+use lent::{ends, turn, Lengths, MARK};
 use tidy::Tidy;
 
 /// A call, and its answer.
 pub type Line = (String, String);
 
 /// A call has less than so many bytes, and so has its answer.
-const LINE: usize = 400;
+const LINE: usize = 420;
 
 const LONGEST_TEXT: usize = 120;
 const MOST_LISTED: usize = 40;
@@ -62,7 +64,7 @@ impl Escape {
     /// The count, and the output after the call.
     pub fn unescaped(&self) -> (Result<u64>, Vec<u8>) {
         let Entry { kind, at } = self.lexeme;
-        let mut output = vec![0; self.output];
+        let mut output = vec![MARK; self.output];
         let count = unescape(&self.text, at, kind, &mut output, self.position);
         (count.map(|count| count as u64), output)
     }
@@ -123,7 +125,7 @@ pub fn indented(case: &Case) -> Result<u64> {
 
 /// The answer, and the output after the call.
 pub fn value_of(case: &Case) -> (Valued, Vec<u8>) {
-    let mut output = vec![0; case.output];
+    let mut output = vec![MARK; case.output];
     let valued = case.valued(&mut output);
     (valued, output)
 }
@@ -162,44 +164,61 @@ fn scalar_line(escape: &Escape) -> Line {
 
 fn indent_line(case: &Case) -> Line {
     let (count, bytes) = (case.count, hexadecimal(&case.text));
+    let (lengths, list) = (list_lengths(case).written(), written_list(&case.list));
     (
-        format!("indent {count} {bytes}{}", written_list(&case.list)),
+        format!("indent {lengths} {count} {bytes}{list}"),
         given(&indented(case)),
     )
 }
 
 fn parts_line(case: &Case) -> Line {
-    let Case {
-        count, place, room, ..
-    } = case;
     let Parted { closer, parts } = case.parted();
     let closer = given(&closer.map(|place| place as u64));
     (
-        format!("parts {count} {place} {room}{}", written_list(&case.list)),
-        format!("{closer} ; {} ;{}", parts.len(), written_list(&parts)),
+        format!("parts {}{}", written_given(case), written_list(&case.list)),
+        format!("{closer} ; {}", written_parts(&parts)),
     )
 }
 
 fn value_line(case: &Case) -> Line {
-    let Case {
-        count,
-        place,
-        room,
-        output,
-        position,
-        ..
-    } = case;
+    let (output, position) = (case.output, case.position);
     let (bytes, list) = (hexadecimal(&case.text), written_list(&case.list));
     let (Valued { value, parts }, after) = value_of(case);
-    let answer = match value {
+    let (value, parts) = (written_value(&value), written_parts(&parts));
+    (
+        format!(
+            "value {} {output} {position} {bytes}{list}",
+            written_given(case)
+        ),
+        format!("{value} ; {parts} ; {}", hexadecimal(&after)),
+    )
+}
+
+/// Those of the list that the call is given. Its places are as many as it has entries.
+fn list_lengths(case: &Case) -> Lengths {
+    Lengths::with(case.list.len(), turn(&case.text) + case.list.len())
+}
+
+/// The list's lengths, the count and the opener's place, the parts list's lengths.
+fn written_given(case: &Case) -> String {
+    let parts = Lengths::with(case.room, turn(&case.text) + case.room + 1);
+    let (count, place) = (case.count, case.place);
+    let (list, parts) = (list_lengths(case).written(), parts.written());
+    format!("{list} {count} {place} {parts}")
+}
+
+/// How many parts, the parts, and how far their arrays are written.
+fn written_parts(parts: &[Entry]) -> String {
+    let (count, list) = (parts.len(), written_list(parts));
+    format!("{count} ;{list} ; {}", ends(count))
+}
+
+pub fn written_value(value: &Result<Held>) -> String {
+    match value {
         Ok(Held::Text { start, end }) => format!("text {start} {end}"),
         Ok(Held::Output { start, end }) => format!("output {start} {end}"),
-        Err(refused) => given(&Err(refused)),
-    };
-    (
-        format!("value {count} {place} {room} {output} {position} {bytes}{list}"),
-        format!("{answer} ; {} ; {}", parts.len(), hexadecimal(&after)),
-    )
+        Err(refused) => given(&Err(*refused)),
+    }
 }
 
 fn given(answer: &Result<u64>) -> String {

@@ -7,6 +7,7 @@ use judge::strings::value::Held;
 use judge::strings::{published, Entry, Result, Words};
 
 use super::hand::Hand;
+use super::lent::MARK;
 use super::tidy::Tidy;
 use super::{indented, value_of, Call, Escape};
 
@@ -88,7 +89,7 @@ pub fn equation(call: &Call) -> Equation {
 
 fn escape_equation(escape: &Escape) -> (String, String) {
     let (count, after) = escape.unescaped();
-    let (lexeme, out) = (lexeme(escape), list(&vec![0u8; escape.output]));
+    let (lexeme, out) = (lexeme(escape), list(&vec![MARK; escape.output]));
     let (at, answer, after) = (escape.position, answer(&count), list(&after));
     (
         format!("unescape {lexeme} {out} {at}"),
@@ -142,7 +143,7 @@ fn value_equation(case: &Case) -> (String, String) {
     };
     let (text, out, at) = (
         list(&case.text),
-        list(&vec![0u8; case.output]),
+        list(&vec![MARK; case.output]),
         case.position,
     );
     let (lists, after) = (lists(case), list(&after));
@@ -162,7 +163,7 @@ fn place(part: Held) -> String {
 fn tidy_equation(tidy: &Tidy) -> (String, String) {
     let (tidied, after) = tidy.tidied();
     let (doc, places, stack) = (tidy.doc.0, tidy.list, tidy.stack);
-    let (text, out) = (list(&tidy.text), list(&vec![0u8; tidy.output]));
+    let (text, out) = (list(&tidy.text), list(&vec![MARK; tidy.output]));
     let counts = tidied.answer.counts;
     let counts = [
         counts.lexemes,

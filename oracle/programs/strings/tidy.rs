@@ -3,11 +3,12 @@
 use judge::generate::accepted::Supply;
 use judge::generate::random::Random;
 use judge::generate::spaced;
-use judge::reference::{trace, within, Answer, Counts, AMPLE};
+use judge::reference::{trace, within, Answer, Counts, Listed, AMPLE};
 use judge::refusal::Refusal;
 use judge::respace::{respaced, tidied, Tidied};
 use judge::source::{words, DocId, Span};
 
+use super::lent::{ends, turn, Lengths, MARK};
 use super::{hexadecimal, Line};
 
 /// So that a call fits a line, and the prover computes it.
@@ -30,9 +31,9 @@ pub struct Tidy {
 }
 
 impl Tidy {
-    /// The answer, and the output after the call; its places hold 0 before it.
+    /// The answer, and the output after the call.
     pub fn tidied(&self) -> (Tidied, Vec<u8>) {
-        let mut output = vec![0; self.output];
+        let mut output = vec![MARK; self.output];
         let trace = trace(&self.text, self.doc);
         let tidied = tidied(&self.text, &trace, self.list, self.stack, &mut output);
         (tidied, output)
@@ -43,22 +44,45 @@ impl Tidy {
     }
 
     pub fn line(&self) -> Line {
-        let (doc, list, stack, output) = (self.doc.0, self.list, self.stack, self.output);
+        let (doc, output, bytes) = (self.doc.0, self.output, hexadecimal(&self.text));
+        let lent = written_lent(&self.text, self.list, self.stack);
         let (Tidied { answer, written }, after) = self.tidied();
-        let bytes = hexadecimal(&self.text);
         (
-            format!("tidy {doc} {list} {stack} {output} {bytes}"),
+            format!("tidy {doc} {lent} {output} {bytes}"),
             format!(
                 "{} ; {written} {}",
-                verdict_and_counts(&answer),
-                hexadecimal(&after[..written])
+                written_lexed(&answer),
+                hexadecimal(&after)
             ),
         )
     }
 }
 
-/// The verdict and the five counts, as `lex` too is answered.
-pub fn verdict_and_counts(answer: &Answer) -> String {
+/// The lengths of the arrays that a lexing call is lent, for so many places of list and
+/// stack.
+pub fn written_lent(text: &[u8], list: usize, stack: usize) -> String {
+    let list = Lengths::with(list, turn(text) + list);
+    let stack = Lengths::with(stack, turn(text) + stack + 1);
+    format!("{} {}", list.written(), stack.written())
+}
+
+/// The verdict and the counts, the list, and how far list and stack are written: the stack
+/// to the deepest nesting at most.
+pub fn written_lexed(answer: &Answer) -> String {
+    let listed: String = answer.listed.iter().map(written_lexeme).collect();
+    let Counts {
+        lexemes, deepest, ..
+    } = answer.counts;
+    let (list, stack) = (ends(lexemes), ends(deepest));
+    format!("{} ;{listed} ; {list} {stack}", verdict_and_counts(answer))
+}
+
+fn written_lexeme(listed: &Listed) -> String {
+    format!(" {} {}", listed.code, written(listed.span))
+}
+
+/// The verdict and the five counts.
+fn verdict_and_counts(answer: &Answer) -> String {
     let verdict = match answer.refusal {
         None => "accepted".to_string(),
         Some(refusal) => written_refusal(refusal),

@@ -1,11 +1,13 @@
 //! Walks from the opening, with the answer of each step.
 
+use judge::codes;
 use judge::generate::random::Random;
 use judge::generate::{nested, spaced, strings, Texts};
-use judge::reference::trace;
+use judge::reference::{trace, Listed};
 use judge::source::DocId;
 use judge::walker::{walk, Given, Place, Stepped};
 
+use crate::strings::lent::{ends, turn, Lengths};
 use crate::strings::tidy::{written, written_refusal};
 use crate::strings::{hexadecimal, Line};
 
@@ -29,16 +31,39 @@ pub struct Walk {
 
 impl Walk {
     pub fn line(&self) -> Line {
-        let (doc, stack, steps) = (self.doc.0, self.stack, self.steps);
-        let answers = walk(&trace(&self.text, self.doc), stack);
+        let (doc, steps) = (self.doc.0, self.steps);
+        let lengths = Lengths::with(self.stack, turn(&self.text) + self.stack);
+        let answers = walk(&trace(&self.text, self.doc), self.stack);
         let last = answers.len() - 1;
-        let answer = |step: usize| written_step(&answers[step.min(last)]);
-        let written: Vec<String> = (0..steps).map(answer).collect();
+        let taken: Vec<&Stepped> = (0..steps).map(|step| &answers[step.min(last)]).collect();
+        let written: String = taken
+            .iter()
+            .map(|step| written_step(step) + " ; ")
+            .collect();
+        let (lengths, bytes) = (lengths.written(), hexadecimal(&self.text));
         (
-            format!("walk {doc} {stack} {steps} {}", hexadecimal(&self.text)),
-            written.join(" ; "),
+            format!("walk {doc} {lengths} {steps} {bytes}"),
+            format!("{}{}", written.trim_end(), written_stack(&taken)),
         )
     }
+}
+
+/// The stack after these steps, and how far its arrays are written. "Only an opener writes
+/// to the stack, at the place numbered by the depth before it".
+fn written_stack(taken: &[&Stepped]) -> String {
+    let mut stack: Vec<Listed> = Vec::new();
+    for stepped in taken {
+        if let Given::Lexeme(lexeme) = stepped.given {
+            if codes::is_opener(lexeme.code) {
+                let place = stepped.after.depth - 1;
+                stack.resize(stack.len().max(place + 1), lexeme);
+                stack[place] = lexeme;
+            }
+        }
+    }
+    let opener = |opener: &Listed| format!(" {} {}", opener.code, written(opener.span));
+    let openers: String = stack.iter().map(opener).collect();
+    format!("{openers} ; {}", ends(stack.len()))
 }
 
 fn written_step(stepped: &Stepped) -> String {
