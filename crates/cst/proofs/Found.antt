@@ -1,27 +1,23 @@
 -- The spans of found parts lie within the limit, so parts that were written into the parts list are read back.
 use Prim.Native.Nat.{ℕ, zero, suc, _^_, _≤_, _<_}
 use native.Mathlib.Omega.{arith}
-use mathlib.Core.Path.{_≡_, refl}
+use mathlib.Core.Path.{_≡_}
 use mathlib.Core.Bool.{Bool, true, false, cond, _||_}
 use mathlib.Core.List.{List, [], _∷_}
 use lib.Dec.{ltb, eqb}
 use lib.ListN.{length, take}
 use borrow.Author.Tests.{ltb-false}
-use Rattle.rules.specs.Spans.{Span, nowhere, limit, isBad, enclosing, Answer}
+use Rattle.rules.specs.Spans.{Span, nowhere, limit, isBad, enclosing}
+use Rattle.rules.specs.Answers.{Answer}
 use Rattle.rules.specs.Kinds.{QuoteClose, StringInner, HoleOpen, HoleClose, isQuoteOpen, isEscape}
-use Rattle.rules.specs.Lexing.{Lexeme, placesOf, lexemesIn, kindsWith, wordsWith}
-use Rattle.rules.specs.Parts.{Turn, closes, refuses, passes, yields, turn, Parts, partsFrom, partsOf, followTurn, inRoom, partsIn}
-use Rattle.rules.proofs.Text.{decide}
+use Rattle.rules.specs.Lent.{Lexeme, placesOf, lexemesIn, kindsWith, wordsWith}
+use Rattle.rules.specs.Parts.{Effect, closes, refuses, passes, yields, effect, Parts, partsFrom, partsOf, followEffect, inRoom, partsIn}
+use Rattle.rules.proofs.Text.{decide, neither}
 use Rattle.rules.proofs.Listed.{AllWords, lexemes-with}
 
 -- a span that starts and ends within the limit
 abbrev pub Within : Span → Type 0
 Within s = (s .start < 2 ^ 48) × (s .end < 2 ^ 48)
-
--- neither of two tests passes
-neither : (a b : Bool) → a || b ≡ false → (a ≡ false) × (b ≡ false)
-neither false b e = (refl, e)
-neither true b e = let z : _≡_ {A = ℕ} 0 1 = cc in absurd (omega arith)
 
 -- one that is not refused does
 pub good-within : (s : Span) → isBad s ≡ false → Within s
@@ -36,18 +32,18 @@ enclosing-within : (s t : Span) → Within s → Within t → Within (enclosing 
 enclosing-within s t a b = (omega (arith, a .0, b .0), omega (arith, a .1, b .1))
 
 -- what a turn keeps or completes lies within the limit
-data TurnWithin : Turn → Type 0 where
+data TurnWithin : Effect → Type 0 where
   ends : TurnWithin closes
   stops : {n : ℕ} {s : Span} → TurnWithin (refuses n s)
   keeps : {depth : ℕ} {hole : Span} → Within hole → TurnWithin (passes depth hole)
   completes : {p : Lexeme} → Within (p .at) → TurnWithin (yields p)
 
-one-within : (b : Bool) {t u : Turn} → TurnWithin t → TurnWithin u → TurnWithin (cond b t u)
+one-within : (b : Bool) {t u : Effect} → TurnWithin t → TurnWithin u → TurnWithin (cond b t u)
 one-within true a b = a
 one-within false a b = b
 
-turn-within : (depth : ℕ) (hole : Span) (l : Lexeme) → Within hole → TurnWithin (turn depth hole l)
-unfolding turn
+turn-within : (depth : ℕ) (hole : Span) (l : Lexeme) → Within hole → TurnWithin (effect depth hole l)
+unfolding effect
 turn-within depth hole l h = decide (isBad (l .at))
     (λ e. rw e stops)
     (λ e.
@@ -59,7 +55,7 @@ turn-within depth hole l h = decide (isBad (l .at))
     (one-within (eqb depth 2) (one-within (eqb (hole .doc) (l .at .doc)) (completes (enclosing-within hole (l .at) h here)) stops) (keeps h))
     (keeps h)))))
 
-follow-within : {t : Turn} (place : ℕ) (go : (depth : ℕ) (hole : Span) → Parts) → TurnWithin t → ((depth : ℕ) (hole : Span) → Within hole → AllWords (go depth hole .found)) → AllWords (followTurn t place go .found)
+follow-within : {t : Effect} (place : ℕ) (go : (depth : ℕ) (hole : Span) → Parts) → TurnWithin t → ((depth : ℕ) (hole : Span) → Within hole → AllWords (go depth hole .found)) → AllWords (followEffect t place go .found)
 follow-within place go ends h = tt
 follow-within place go stops h = tt
 follow-within place go (keeps {depth} {hole} g) h = h depth hole g

@@ -8,25 +8,28 @@ use lib.Dec.{leb, ltb, eqb}
 use lib.ListN.{length, take, drop, set, length-append, length-map, length-drop, length-take, drop-of-length-le}
 use borrow.Author.Tests.{leb-true, leb-false, eqb-false, lt-ltb}
 use Rattle.rules.specs.Refusals.{BadSpan, ListFull, NoString}
-use Rattle.rules.specs.Spans.{Span, low, high, nowhere, isBad, Answer, given, refused, refuse, unionOf}
+use Rattle.rules.specs.Spans.{Span, low, high, nowhere, isBad}
+use Rattle.rules.specs.Answers.{Answer, given, refused, refuse}
+use Rattle.rules.specs.Source.{unionOf}
 use Rattle.rules.specs.Kinds.{QuoteClose, StringInner, HoleOpen, HoleClose, isQuoteOpen, isEscape}
-use Rattle.rules.specs.Lexing.{Lexeme, lexeme, placesOf, lexemesIn, wordsOf, kindsWith, wordsWith}
-use Rattle.rules.specs.Parts.{Turn, closes, refuses, passes, yields, holeEnds, turn, Parts, noParts, partThen, followTurn, partsFrom, partsOf, inRoom, partsIn, partsCall, lexemesFrom, ListsParts}
+use Rattle.rules.specs.Lent.{Lexeme, lexeme, placesOf, lexemesIn, wordsOf, kindsWith, wordsWith, holding, lexemesFrom, arrays}
+use Rattle.rules.specs.Parts.{Effect, closes, refuses, passes, yields, holeEnds, effect, Parts, noParts, partThen, followEffect, partsFrom, partsOf, inRoom, partsIn, partsCall, ListsParts}
+use Rattle.rules.proofs.Listed.{same-arrays}
 use Rattle.rules.proofs.Text.{decide, branch}
 use Rattle.rules.proofs.Trace.{kinds-length, words-length, kinds-snoc, words-snoc}
 use Rattle.list.specs.Entries.{firstOf, PutAt}
 use Rattle.list.proofs.Entries.{places-length, first-drop, first-taken}
-use Rattle.cst.specs.declared.Move.{Move}
-use Rattle.cst.specs.declared.Move.the-variants.{Passes, Yields}
+use Rattle.cst.specs.declared.Progress.{Progress}
+use Rattle.cst.specs.declared.Progress.the-variants.{Passes, Yields}
 use Rattle.cst.specs.declared.Open.{Open}
-use Rattle.cst.specs.declared.Stop.{Stop}
-use Rattle.cst.specs.declared.Stop.the-variants.{Closes, Refuses}
+use Rattle.cst.specs.declared.Ending.{Ending}
+use Rattle.cst.specs.declared.Ending.the-variants.{Closes, Refuses}
 use Rattle.source.specs.Meaning.{spanMeant}
 use Rattle.cst.specs.Meaning.{partMeant}
-use Rattle.cst.specs.Search.{moveMeant, stopMeant, openerTurn, orFull, opens, openMeant, openAfter, partsAfter, answerAt, HasRoom, Wrote, Searched}
+use Rattle.cst.specs.Search.{progressMeant, endingMeant, openerEffect, orFull, opens, openMeant, openAfter, partsAfter, answerAt, HasRoom, Wrote, Searched}
 
 -- a hole's span, or the refusal of it, as what the closer of the hole does
-abbrev pub endsWith : Answer Span → Turn
+abbrev pub endsWith : Answer Span → Effect
 endsWith (given s) = yields (lexeme HoleOpen s)
 endsWith (refused r) = refuses BadSpan nowhere
 
@@ -36,14 +39,14 @@ unfolding unionOf
 hole-union a b p q = rw (p, q) (decide (eqb (a .doc) (b .doc)) (λ e. rw e) (λ e. rw e))
 
 -- the four things that a lexeme can do, numbered
-abbrev numbered : Turn → ℕ
+abbrev numbered : Effect → ℕ
 numbered closes = 0
 numbered (refuses n s) = 1
 numbered (passes d h) = 2
 numbered (yields p) = 3
 
 -- no two of them are the same
-apart : {P : Type 0} {s t : Turn} → s ≡ t → eqb (numbered s) (numbered t) ≡ false → P
+apart : {P : Type 0} {s t : Effect} → s ≡ t → eqb (numbered s) (numbered t) ≡ false → P
 apart {s = s} {t = t} same differ = absurd (eqb-false (numbered s) (numbered t) differ (ap numbered same))
 
 -- what is passed over with the same result leaves the same depth
@@ -60,8 +63,8 @@ record Opens (depth d : ℕ) (h : Span) : Type 0 where
   pub upper : d ≤ suc depth
   pub good : isBad h ≡ false
 
-passed-opens : (depth : ℕ) (hole : Span) (l : Lexeme) (d : ℕ) (h : Span) → 1 ≤ depth → isBad hole ≡ false → turn depth hole l ≡ passes d h → Opens depth d h
-unfolding turn
+passed-opens : (depth : ℕ) (hole : Span) (l : Lexeme) (d : ℕ) (h : Span) → 1 ≤ depth → isBad hole ≡ false → effect depth hole l ≡ passes d h → Opens depth d h
+unfolding effect
 passed-opens depth hole l d h lower good e =
     branch (isBad (l .at)) e (λ bad f. apart f refl) (λ bad e.
     branch (eqb depth 1) e
@@ -88,7 +91,7 @@ passed-opens depth hole l d h lower good e =
     from-three n some-open not-one not-two = omega arith
 
 -- what is passed over in a full list is passed over in any
-full-passes : (room n : ℕ) (t : Turn) (d : ℕ) (h : Span) → orFull room n t ≡ passes d h → t ≡ passes d h
+full-passes : (room n : ℕ) (t : Effect) (d : ℕ) (h : Span) → orFull room n t ≡ passes d h → t ≡ passes d h
 unfolding orFull
 full-passes room n closes d h e = e
 full-passes room n (refuses k s) d h e = e
@@ -96,7 +99,7 @@ full-passes room n (passes a g) d h e = e
 full-passes room n (yields p) d h e = branch (leb room n) e (λ t f. apart f refl) (λ t f. f)
 
 -- what completes a part in a full list does so in any, and there is a place for it
-full-yields : (room n : ℕ) (t : Turn) (p : Lexeme) → orFull room n t ≡ yields p → (t ≡ yields p) × (n < room)
+full-yields : (room n : ℕ) (t : Effect) (p : Lexeme) → orFull room n t ≡ yields p → (t ≡ yields p) × (n < room)
 unfolding orFull
 full-yields room n closes p e = apart e refl
 full-yields room n (refuses k s) p e = apart e refl
@@ -104,7 +107,7 @@ full-yields room n (passes d h) p e = apart e refl
 full-yields room n (yields q) p e = branch (leb room n) e (λ t f. apart f refl) (λ t f. (f, leb-false room n t))
 
 -- a lexeme that ends the search ends it in a full list too
-pub full-stop : (room n : ℕ) (s : Stop) → stopMeant s ≡ orFull room n (stopMeant s)
+pub full-stop : (room n : ℕ) (s : Ending) → endingMeant s ≡ orFull room n (endingMeant s)
 unfolding orFull
 full-stop room n Closes = refl
 full-stop room n (Refuses k a) = refl
@@ -150,7 +153,7 @@ abbrev pub behind : List Lexeme → Parts → Parts
 behind past p = record { found = past ++ p .found; answer = p .answer }
 
 -- what ends the search in a full list leaves an answer and no more parts
-full-stops : (room n : ℕ) (t : Turn) (s : Stop) (place : ℕ) (go : ℕ → Span → Parts) → orFull room n t ≡ stopMeant s → within (room - n) (followTurn t place go) ≡ noParts (answerAt place (stopMeant s))
+full-stops : (room n : ℕ) (t : Effect) (s : Ending) (place : ℕ) (go : ℕ → Span → Parts) → orFull room n t ≡ endingMeant s → within (room - n) (followEffect t place go) ≡ noParts (answerAt place (endingMeant s))
 unfolding orFull
 full-stops room n closes Closes place go e = refl
 full-stops room n closes (Refuses k s) place go e = apart e refl
@@ -206,19 +209,19 @@ module _ {ls : List Lexeme} {start : ℕ} {pks₀ pws₀ pks pws : List ℕ} {pl
   same-words = rw (st .words) (words-length (st .past) pws₀ (omega (arith, st .counted, st .fits)))
 
   -- there is a place for the part that a lexeme completes
-  pub has-room : (l : Lexeme) (t : Turn) → orFull (placesOf pks₀ pws₀) n (turn depth hole l) ≡ t → HasRoom t n pks pws
+  pub has-room : (l : Lexeme) (t : Effect) → orFull (placesOf pks₀ pws₀) n (effect depth hole l) ≡ t → HasRoom t n pks pws
   has-room l t e =
       record {
         room = λ p f.
-            let more : n < placesOf pks₀ pws₀ = (full-yields (placesOf pks₀ pws₀) n (turn depth hole l) p (e ∙ f)) .1 in
+            let more : n < placesOf pks₀ pws₀ = (full-yields (placesOf pks₀ pws₀) n (effect depth hole l) p (e ∙ f)) .1 in
             omega (arith, same-kinds, same-words);
       }
 
   -- after a lexeme that is passed over
-  stands-passes : (l : Lexeme) → drop place ls ≡ l ∷ drop (suc place) ls → (d : ℕ) (h : Span) → orFull (placesOf pks₀ pws₀) n (turn depth hole l) ≡ passes d h →
+  stands-passes : (l : Lexeme) → drop place ls ≡ l ∷ drop (suc place) ls → (d : ℕ) (h : Span) → orFull (placesOf pks₀ pws₀) n (effect depth hole l) ≡ passes d h →
       (pks′ pws′ : List ℕ) → Wrote (passes d h) n pks pws pks′ pws′ → Stands ls start pks₀ pws₀ pks′ pws′ (suc place) d h n
   stands-passes l here d h e pks′ pws′ wrote =
-      let t : turn depth hole l ≡ passes d h = full-passes (placesOf pks₀ pws₀) n (turn depth hole l) d h e in
+      let t : effect depth hole l ≡ passes d h = full-passes (placesOf pks₀ pws₀) n (effect depth hole l) d h e in
       let o : Opens depth d h = passed-opens depth hole l d h (st .lower) (st .good) t in
       let next : partsFrom place depth hole (drop place ls) ≡ partsFrom (suc place) d h (drop (suc place) ls) = ap (partsFrom place depth hole) here ∙ rw t in
       record {
@@ -235,10 +238,10 @@ module _ {ls : List Lexeme} {start : ℕ} {pks₀ pws₀ pks pws : List ℕ} {pl
       }
 
   -- after a lexeme that completes a part
-  stands-yields : (l : Lexeme) → drop place ls ≡ l ∷ drop (suc place) ls → (p : Lexeme) → orFull (placesOf pks₀ pws₀) n (turn depth hole l) ≡ yields p →
+  stands-yields : (l : Lexeme) → drop place ls ≡ l ∷ drop (suc place) ls → (p : Lexeme) → orFull (placesOf pks₀ pws₀) n (effect depth hole l) ≡ yields p →
       (pks′ pws′ : List ℕ) → Wrote (yields p) n pks pws pks′ pws′ → Stands ls start pks₀ pws₀ pks′ pws′ (suc place) 1 nowhere (suc n)
   stands-yields l here p e pks′ pws′ wrote =
-      let t = full-yields (placesOf pks₀ pws₀) n (turn depth hole l) p e in
+      let t = full-yields (placesOf pks₀ pws₀) n (effect depth hole l) p e in
       let ahead : Parts = partsFrom (suc place) 1 nowhere (drop (suc place) ls) in
       let next : partsFrom place depth hole (drop place ls) ≡ partThen p ahead = ap (partsFrom place depth hole) here ∙ rw (t .0) in
       let one : placesOf pks₀ pws₀ - n ≡ suc (placesOf pks₀ pws₀ - suc n) = omega (arith, t .1) in
@@ -257,35 +260,34 @@ module _ {ls : List Lexeme} {start : ℕ} {pks₀ pws₀ pks pws : List ℕ} {pl
       }
 
   -- after any lexeme that does not end the search
-  pub stands-on : (l : Lexeme) → drop place ls ≡ l ∷ drop (suc place) ls → (m : Move) → orFull (placesOf pks₀ pws₀) n (turn depth hole l) ≡ moveMeant m →
-      (pks′ pws′ : List ℕ) → Wrote (moveMeant m) n pks pws pks′ pws′ → (o : Open) → openMeant o ≡ openAfter (moveMeant m) →
-      Stands ls start pks₀ pws₀ pks′ pws′ (suc place) (o .depth) (spanMeant (o .hole)) (partsAfter (moveMeant m) n)
+  pub stands-on : (l : Lexeme) → drop place ls ≡ l ∷ drop (suc place) ls → (m : Progress) → orFull (placesOf pks₀ pws₀) n (effect depth hole l) ≡ progressMeant m →
+      (pks′ pws′ : List ℕ) → Wrote (progressMeant m) n pks pws pks′ pws′ → (o : Open) → openMeant o ≡ openAfter (progressMeant m) →
+      Stands ls start pks₀ pws₀ pks′ pws′ (suc place) (o .depth) (spanMeant (o .hole)) (partsAfter (progressMeant m) n)
   stands-on l here (Passes a) e pks′ pws′ wrote o after = rw (open-depth after, open-hole after) (stands-passes l here (a .depth) (spanMeant (a .hole)) e pks′ pws′ wrote)
   stands-on l here (Yields p) e pks′ pws′ wrote o after = rw (open-depth after, open-hole after) (stands-yields l here (partMeant p) e pks′ pws′ wrote)
 
   -- the search is over: what is ahead is an answer and no more parts
-  stands-out : (a : Answer ℕ) → within (placesOf pks₀ pws₀ - n) (partsFrom place depth hole (drop place ls)) ≡ noParts a → Searched (partsFrom start 1 nowhere (drop start ls)) a n pks₀ pws₀ pks pws
+  stands-out : (a : Answer ℕ) → within (placesOf pks₀ pws₀ - n) (partsFrom place depth hole (drop place ls)) ≡ noParts a → Searched (partsFrom start 1 nowhere (drop start ls)) a n (arrays pks₀ pws₀) (arrays pks pws)
   stands-out a e =
       let all : within (placesOf pks₀ pws₀) (partsFrom start 1 nowhere (drop start ls)) ≡ record { found = st .past; answer = a } =
       st .whole ∙ ap (behind (st .past)) e ∙ rw (append-nil (st .past)) in
       record {
         answered = sym (ap (λ (p : Parts). p .answer) all);
         counted = st .counted ∙ sym (ap (λ (p : Parts). length (p .found)) all);
-        kinds = st .kinds ∙ sym (ap (λ (p : Parts). kindsWith (p .found) pks₀) all);
-        words = st .words ∙ sym (ap (λ (p : Parts). wordsWith (p .found) pws₀) all);
+        listed = same-arrays (st .kinds) (st .words) ∙ sym (ap (λ (p : Parts). holding (p .found) (arrays pks₀ pws₀)) all);
       }
 
   -- at the list's end
-  pub stands-ended : length ls ≤ place → Searched (partsFrom start 1 nowhere (drop start ls)) (refuse NoString nowhere) n pks₀ pws₀ pks pws
+  pub stands-ended : length ls ≤ place → Searched (partsFrom start 1 nowhere (drop start ls)) (refuse NoString nowhere) n (arrays pks₀ pws₀) (arrays pks pws)
   stands-ended past-end = stands-out (refuse NoString nowhere) (rw (drop-of-length-le ls {i = place} past-end))
 
   -- at a lexeme that ends the search
-  pub stands-stopped : (l : Lexeme) → drop place ls ≡ l ∷ drop (suc place) ls → (s : Stop) → orFull (placesOf pks₀ pws₀) n (turn depth hole l) ≡ stopMeant s →
-      Searched (partsFrom start 1 nowhere (drop start ls)) (answerAt place (stopMeant s)) n pks₀ pws₀ pks pws
+  pub stands-stopped : (l : Lexeme) → drop place ls ≡ l ∷ drop (suc place) ls → (s : Ending) → orFull (placesOf pks₀ pws₀) n (effect depth hole l) ≡ endingMeant s →
+      Searched (partsFrom start 1 nowhere (drop start ls)) (answerAt place (endingMeant s)) n (arrays pks₀ pws₀) (arrays pks pws)
   stands-stopped l here s e =
-      stands-out (answerAt place (stopMeant s))
+      stands-out (answerAt place (endingMeant s))
       (ap (λ (r : List Lexeme). within (placesOf pks₀ pws₀ - n) (partsFrom place depth hole r)) here
-      ∙ full-stops (placesOf pks₀ pws₀) n (turn depth hole l) s place (λ d h. partsFrom (suc place) d h (drop (suc place) ls)) e)
+      ∙ full-stops (placesOf pks₀ pws₀) n (effect depth hole l) s place (λ d h. partsFrom (suc place) d h (drop (suc place) ls)) e)
 
 -- the lexeme at a place of a list, and those after it
 pub next-in : (ks ws : List ℕ) (end place : ℕ) → end ≤ placesOf ks ws → place < end → (l : Lexeme) → l ≡ firstOf (drop place (lexemesIn ks ws)) →
@@ -301,7 +303,7 @@ end-length ks ws end inside = omega (arith, length-take end (lexemesIn ks ws), p
 
 -- the lexeme at a place of a list that has so many, and those after it
 pub opener-in : (ks ws : List ℕ) (count place : ℕ) → place < length (take count (lexemesIn ks ws)) → (l : Lexeme) → l ≡ firstOf (drop place (lexemesIn ks ws)) →
-    lexemesFrom ks ws count place ≡ l ∷ lexemesFrom ks ws count (suc place)
+    lexemesFrom (arrays ks ws) count place ≡ l ∷ lexemesFrom (arrays ks ws) count (suc place)
 opener-in ks ws count place before l e =
     let ls : List Lexeme = take count (lexemesIn ks ws) in
     let counted : place < count = omega (arith, length-take count (lexemesIn ks ws)) in
@@ -314,27 +316,26 @@ take-ended (suc n) [] = refl
 take-ended {A} (suc n) (x ∷ xs) = ap (λ (r : List A). x ∷ r) (take-ended n xs)
 
 -- the parts call, by the parts of the string there
-lists-as : (ks ws : List ℕ) (count place : ℕ) (pks pws : List ℕ) (p : Parts) → partsIn (placesOf pks pws) place (lexemesFrom ks ws count place) ≡ p →
-    ListsParts ks ws count place pks pws (p .answer) (length (p .found)) (kindsWith (p .found) pks) (wordsWith (p .found) pws)
+lists-as : (ks ws : List ℕ) (count place : ℕ) (pks pws : List ℕ) (p : Parts) → partsIn (placesOf pks pws) place (lexemesFrom (arrays ks ws) count place) ≡ p →
+    ListsParts (arrays ks ws) count place (arrays pks pws) (p .answer) (length (p .found)) (arrays (kindsWith (p .found) pks) (wordsWith (p .found) pws))
 unfolding partsCall
 lists-as ks ws count place pks pws p e =
     record {
       answered = sym (ap (λ (q : Parts). q .answer) e);
       counted = sym (ap (λ (q : Parts). length (q .found)) e);
-      kinds = sym (ap (λ (q : Parts). kindsWith (q .found) pks) e);
-      words = sym (ap (λ (q : Parts). wordsWith (q .found) pws) e);
+      listed = sym (ap (λ (q : Parts). holding (q .found) (arrays pks pws)) e);
     }
 
 -- the call where the list has ended
 pub lists-past : (ks ws : List ℕ) (count place : ℕ) (pks pws : List ℕ) → length (take count (lexemesIn ks ws)) ≤ place →
-    ListsParts ks ws count place pks pws (refuse NoString nowhere) 0 pks pws
+    ListsParts (arrays ks ws) count place (arrays pks pws) (refuse NoString nowhere) 0 (arrays pks pws)
 unfolding partsIn partsOf
 lists-past ks ws count place pks pws ended =
     lists-as ks ws count place pks pws (noParts (refuse NoString nowhere)) (rw (drop-of-length-le (take count (lexemesIn ks ws)) {i = place} ended))
 
 -- an opener that is refused leaves its refusal
-opener-stops : (place : ℕ) (l : Lexeme) (ls : List Lexeme) (s : Stop) → openerTurn l ≡ stopMeant s → partsOf place (l ∷ ls) ≡ noParts (answerAt place (stopMeant s))
-unfolding openerTurn partsOf
+opener-stops : (place : ℕ) (l : Lexeme) (ls : List Lexeme) (s : Ending) → openerEffect l ≡ endingMeant s → partsOf place (l ∷ ls) ≡ noParts (answerAt place (endingMeant s))
+unfolding openerEffect partsOf
 opener-stops place l ls Closes e =
     branch (isBad (l .at)) e (λ t f. apart f refl) (λ t e.
     branch (isQuoteOpen (l .kind)) e (λ u f. apart f refl) (λ u f. apart f refl))
@@ -346,15 +347,15 @@ opener-stops place l ls (Refuses n s) e =
     (λ u f. let number : NoString ≡ n = cc in let same : l .at ≡ spanMeant s = cc in rw (t, u, ← number, ← same)))
 
 -- and so does the call
-pub lists-stopped : (ks ws : List ℕ) (count place : ℕ) (pks pws : List ℕ) (l : Lexeme) → lexemesFrom ks ws count place ≡ l ∷ lexemesFrom ks ws count (suc place) →
-    (s : Stop) → openerTurn l ≡ stopMeant s → ListsParts ks ws count place pks pws (answerAt place (stopMeant s)) 0 pks pws
+pub lists-stopped : (ks ws : List ℕ) (count place : ℕ) (pks pws : List ℕ) (l : Lexeme) → lexemesFrom (arrays ks ws) count place ≡ l ∷ lexemesFrom (arrays ks ws) count (suc place) →
+    (s : Ending) → openerEffect l ≡ endingMeant s → ListsParts (arrays ks ws) count place (arrays pks pws) (answerAt place (endingMeant s)) 0 (arrays pks pws)
 unfolding partsIn
 lists-stopped ks ws count place pks pws l here s e =
-    lists-as ks ws count place pks pws (noParts (answerAt place (stopMeant s))) (rw (here, opener-stops place l (lexemesFrom ks ws count (suc place)) s e))
+    lists-as ks ws count place pks pws (noParts (answerAt place (endingMeant s))) (rw (here, opener-stops place l (lexemesFrom (arrays ks ws) count (suc place)) s e))
 
 -- after an opener the parts are those from the next place on
-opener-goes : (place : ℕ) (l : Lexeme) (ls : List Lexeme) (m : Move) → openerTurn l ≡ moveMeant m → partsOf place (l ∷ ls) ≡ partsFrom (suc place) 1 nowhere ls
-unfolding openerTurn partsOf
+opener-goes : (place : ℕ) (l : Lexeme) (ls : List Lexeme) (m : Progress) → openerEffect l ≡ progressMeant m → partsOf place (l ∷ ls) ≡ partsFrom (suc place) 1 nowhere ls
+unfolding openerEffect partsOf
 opener-goes place l ls (Passes o) e =
     branch (isBad (l .at)) e (λ t f. apart f refl) (λ t e. branch (isQuoteOpen (l .kind)) e (λ u f. rw (t, u)) (λ u f. apart f refl))
 opener-goes place l ls (Yields p) e =
@@ -362,14 +363,14 @@ opener-goes place l ls (Yields p) e =
     branch (isQuoteOpen (l .kind)) e (λ u f. apart f refl) (λ u f. apart f refl))
 
 -- and the call lists what the search from there finds
-pub lists-searched : (ks ws : List ℕ) (count place : ℕ) (pks pws pks′ pws′ : List ℕ) (l : Lexeme) → lexemesFrom ks ws count place ≡ l ∷ lexemesFrom ks ws count (suc place) →
-    (m : Move) → openerTurn l ≡ moveMeant m → (a : Answer ℕ) (n : ℕ) →
-    Searched (partsFrom (suc place) 1 nowhere (lexemesFrom ks ws (length (take count (lexemesIn ks ws))) (suc place))) a n pks pws pks′ pws′ →
-    ListsParts ks ws count place pks pws a n pks′ pws′
+pub lists-searched : (ks ws : List ℕ) (count place : ℕ) (pks pws pks′ pws′ : List ℕ) (l : Lexeme) → lexemesFrom (arrays ks ws) count place ≡ l ∷ lexemesFrom (arrays ks ws) count (suc place) →
+    (m : Progress) → openerEffect l ≡ progressMeant m → (a : Answer ℕ) (n : ℕ) →
+    Searched (partsFrom (suc place) 1 nowhere (lexemesFrom (arrays ks ws) (length (take count (lexemesIn ks ws))) (suc place))) a n (arrays pks pws) (arrays pks′ pws′) →
+    ListsParts (arrays ks ws) count place (arrays pks pws) a n (arrays pks′ pws′)
 unfolding partsIn
 lists-searched ks ws count place pks pws pks′ pws′ l here m e a n found =
-    let ahead : Parts = partsFrom (suc place) 1 nowhere (lexemesFrom ks ws count (suc place)) in
-    let same : partsFrom (suc place) 1 nowhere (lexemesFrom ks ws (length (take count (lexemesIn ks ws))) (suc place)) ≡ ahead = rw (take-ended count (lexemesIn ks ws)) in
-    let known : Searched ahead a n pks pws pks′ pws′ = rw same at found in
-    let all : partsIn (placesOf pks pws) place (lexemesFrom ks ws count place) ≡ within (placesOf pks pws) ahead = rw (here, opener-goes place l (lexemesFrom ks ws count (suc place)) m e) in
-    rw (known .answered, known .counted, known .kinds, known .words) (lists-as ks ws count place pks pws (within (placesOf pks pws) ahead) all)
+    let ahead : Parts = partsFrom (suc place) 1 nowhere (lexemesFrom (arrays ks ws) count (suc place)) in
+    let same : partsFrom (suc place) 1 nowhere (lexemesFrom (arrays ks ws) (length (take count (lexemesIn ks ws))) (suc place)) ≡ ahead = rw (take-ended count (lexemesIn ks ws)) in
+    let known : Searched ahead a n (arrays pks pws) (arrays pks′ pws′) = rw same at found in
+    let all : partsIn (placesOf pks pws) place (lexemesFrom (arrays ks ws) count place) ≡ within (placesOf pks pws) ahead = rw (here, opener-goes place l (lexemesFrom (arrays ks ws) count (suc place)) m e) in
+    rw (known .answered, known .counted, known .listed) (lists-as ks ws count place pks pws (within (placesOf pks pws) ahead) all)

@@ -2,15 +2,15 @@
 use Prim.Native.Nat.{ℕ}
 use mathlib.Core.Bool.{cond}
 use mathlib.Core.Option.{Option, none, some}
-use Rattle.rules.specs.Spans.{Answer as AnswerRule, given, refused}
+use Rattle.rules.specs.Answers.{Answer as AnswerRule, given, refused}
 use Rattle.rules.specs.Kinds.{StringInner, HoleOpen, between}
-use Rattle.rules.specs.Lexing.{Lexeme, lexeme}
+use Rattle.rules.specs.Lent.{Lexeme, lexeme}
 use Rattle.source.specs.Meaning.{spanMeant, refusalMeant}
 use Rattle.token.specs.Codes.{escapeCode}
 use Rattle.cst.specs.declared.StringPart.{StringPart}
 use Rattle.cst.specs.declared.StringPart.the-variants.{String, Escape, Hole}
-use Rattle.cst.specs.declared.Known.{Known}
-use Rattle.cst.specs.declared.Known.the-variants.{Part, NoPart}
+use Rattle.cst.specs.declared.AsPart.{AsPart}
+use Rattle.cst.specs.declared.AsPart.the-variants.{Part, NoPart}
 use Rattle.cst.specs.declared.Closer.{Closer}
 use Rattle.cst.specs.declared.Closer.the-variants.{At, Refused}
 
@@ -20,9 +20,9 @@ partMeant (String s) = lexeme StringInner (spanMeant s)
 partMeant (Escape s e) = lexeme (escapeCode e) (spanMeant s)
 partMeant (Hole s) = lexeme HoleOpen (spanMeant s)
 
-abbrev pub knownMeant : Known → Option Lexeme
-knownMeant (Part p) = some (partMeant p)
-knownMeant NoPart = none
+abbrev pub asPartMeant : AsPart → Option Lexeme
+asPartMeant (Part p) = some (partMeant p)
+asPartMeant NoPart = none
 
 -- a lexeme that is a part by its kind, 10 to 14
 unfoldable pub ifPart : Lexeme → Option Lexeme

@@ -6,38 +6,39 @@ use mathlib.Core.List.{List, [], _∷_, _++_}
 use lib.Dec.{leb}
 use lib.ListN.{length}
 use Rattle.rules.specs.Refusals.{BadSpan, ListFull, NoString}
-use Rattle.rules.specs.Spans.{Span, nowhere, isBad, Answer as AnswerRule, given, refuse}
+use Rattle.rules.specs.Spans.{Span, nowhere, isBad}
+use Rattle.rules.specs.Answers.{Answer as AnswerRule, given, refuse}
 use Rattle.rules.specs.Kinds.{isQuoteOpen}
-use Rattle.rules.specs.Lexing.{Lexeme, placesOf, kindsWith, wordsWith}
-use Rattle.rules.specs.Parts.{Turn as TurnRule, closes, refuses, passes, yields, Parts, inRoom}
+use Rattle.rules.specs.Lent.{Lexeme, Arrays, placesOf, arrayPlaces, kindsWith, wordsWith, holding}
+use Rattle.rules.specs.Parts.{Effect as EffectRule, closes, refuses, passes, yields, Parts, inRoom}
 use Rattle.source.specs.Meaning.{spanMeant}
 use Rattle.cst.specs.Meaning.{partMeant}
-use Rattle.cst.specs.declared.Stop.{Stop}
-use Rattle.cst.specs.declared.Stop.the-variants.{Closes, Refuses}
-use Rattle.cst.specs.declared.Move.{Move}
-use Rattle.cst.specs.declared.Move.the-variants.{Passes, Yields}
+use Rattle.cst.specs.declared.Ending.{Ending}
+use Rattle.cst.specs.declared.Ending.the-variants.{Closes, Refuses}
+use Rattle.cst.specs.declared.Progress.{Progress}
+use Rattle.cst.specs.declared.Progress.the-variants.{Passes, Yields}
 use Rattle.cst.specs.declared.Open.{Open}
-use Rattle.cst.specs.declared.Turn.{Turn}
-use Rattle.cst.specs.declared.Turn.the-variants.{Goes, Stops}
+use Rattle.cst.specs.declared.Effect.{Effect}
+use Rattle.cst.specs.declared.Effect.the-variants.{Goes, Stops}
 
-abbrev pub moveMeant : Move → TurnRule
-moveMeant (Passes o) = passes (o .depth) (spanMeant (o .hole))
-moveMeant (Yields p) = yields (partMeant p)
+abbrev pub progressMeant : Progress → EffectRule
+progressMeant (Passes o) = passes (o .depth) (spanMeant (o .hole))
+progressMeant (Yields p) = yields (partMeant p)
 
-abbrev pub stopMeant : Stop → TurnRule
-stopMeant Closes = closes
-stopMeant (Refuses n s) = refuses n (spanMeant s)
+abbrev pub endingMeant : Ending → EffectRule
+endingMeant Closes = closes
+endingMeant (Refuses n s) = refuses n (spanMeant s)
 
-abbrev pub turnMeant : Turn → TurnRule
-turnMeant (Goes m) = moveMeant m
-turnMeant (Stops s) = stopMeant s
+abbrev pub effectMeant : Effect → EffectRule
+effectMeant (Goes m) = progressMeant m
+effectMeant (Stops s) = endingMeant s
 
 -- the opener: "or a start that is no QuoteOpen, gives 50"
-unfoldable pub openerTurn : Lexeme → TurnRule
-openerTurn l = cond (isBad (l .at)) (refuses BadSpan nowhere) (cond (isQuoteOpen (l .kind)) (passes 1 nowhere) (refuses NoString (l .at)))
+unfoldable pub openerEffect : Lexeme → EffectRule
+openerEffect l = cond (isBad (l .at)) (refuses BadSpan nowhere) (cond (isQuoteOpen (l .kind)) (passes 1 nowhere) (refuses NoString (l .at)))
 
 -- "31": a part for which there is no place
-unfoldable pub orFull : (room count : ℕ) → TurnRule → TurnRule
+unfoldable pub orFull : (room count : ℕ) → EffectRule → EffectRule
 orFull room count closes = closes
 orFull room count (refuses n s) = refuses n s
 orFull room count (passes d h) = passes d h
@@ -51,37 +52,37 @@ abbrev pub openMeant : Open → OpenRule
 openMeant o = opens (o .depth) (spanMeant (o .hole))
 
 -- the depth can be counted, and the span of a hole is not bad
-pub record CanTurn (o : Open) : Type 0 where
+pub record CanCount (o : Open) : Type 0 where
   pub some-open : 1 ≤ o .depth
   pub small : o .depth + 1 < 2 ^ 64
   pub good : isBad (spanMeant (o .hole)) ≡ false
 
 -- what is open after a lexeme that does not end the search
-abbrev pub openAfter : TurnRule → OpenRule
+abbrev pub openAfter : EffectRule → OpenRule
 openAfter closes = opens 1 nowhere
 openAfter (refuses n s) = opens 1 nowhere
 openAfter (passes d h) = opens d h
 openAfter (yields p) = opens 1 nowhere
 
 -- how many parts are listed after it
-abbrev pub partsAfter : TurnRule → ℕ → ℕ
+abbrev pub partsAfter : EffectRule → ℕ → ℕ
 partsAfter closes n = n
 partsAfter (refuses k s) n = n
 partsAfter (passes d h) n = n
 partsAfter (yields p) n = suc n
 
 -- the parts that it completes
-abbrev pub partsBy : TurnRule → List Lexeme
+abbrev pub partsBy : EffectRule → List Lexeme
 partsBy closes = []
 partsBy (refuses n s) = []
 partsBy (passes d h) = []
 partsBy (yields p) = p ∷ []
 
 -- there is a place for it
-pub record HasRoom (t : TurnRule) (n : ℕ) (pks pws : List ℕ) : Type 0 where
+pub record HasRoom (t : EffectRule) (n : ℕ) (pks pws : List ℕ) : Type 0 where
   pub room : (p : Lexeme) → t ≡ yields p → n < placesOf pks pws
 
-pub record Wrote (t : TurnRule) (n : ℕ) (pks pws pks′ pws′ : List ℕ) : Type 0 where
+pub record Wrote (t : EffectRule) (n : ℕ) (pks pws pks′ pws′ : List ℕ) : Type 0 where
   pub kinds : (ps : List Lexeme) → length ps ≡ n → (ks : List ℕ) → pks ≡ kindsWith ps ks → pks′ ≡ kindsWith (ps ++ partsBy t) ks
   pub words : (ps : List Lexeme) → length ps ≡ n → (ws : List ℕ) → pws ≡ wordsWith ps ws → pws′ ≡ wordsWith (ps ++ partsBy t) ws
 
@@ -91,14 +92,13 @@ pub record Before (start end : ℕ) (ks ws : List ℕ) : Type 0 where
   pub inside : end ≤ placesOf ks ws
 
 -- what the search leaves, of the parts that there are with ample room
-pub record Searched (p : Parts) (answer : AnswerRule ℕ) (n : ℕ) (pks pws pks′ pws′ : List ℕ) : Type 0 where
-  pub answered : answer ≡ inRoom (placesOf pks pws) (p .found) (p .answer) .answer
-  pub counted : n ≡ length (inRoom (placesOf pks pws) (p .found) (p .answer) .found)
-  pub kinds : pks′ ≡ kindsWith (inRoom (placesOf pks pws) (p .found) (p .answer) .found) pks
-  pub words : pws′ ≡ wordsWith (inRoom (placesOf pks pws) (p .found) (p .answer) .found) pws
+pub record Searched (p : Parts) (answer : AnswerRule ℕ) (n : ℕ) (parts parts′ : Arrays) : Type 0 where
+  pub answered : answer ≡ inRoom (arrayPlaces parts) (p .found) (p .answer) .answer
+  pub counted : n ≡ length (inRoom (arrayPlaces parts) (p .found) (p .answer) .found)
+  pub listed : parts′ ≡ holding (inRoom (arrayPlaces parts) (p .found) (p .answer) .found) parts
 
 -- the answer where the search stops at a place
-abbrev pub answerAt : (place : ℕ) → TurnRule → AnswerRule ℕ
+abbrev pub answerAt : (place : ℕ) → EffectRule → AnswerRule ℕ
 answerAt place closes = given place
 answerAt place (refuses n s) = refuse n s
 answerAt place (passes d h) = given place

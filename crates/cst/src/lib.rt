@@ -6,10 +6,11 @@
 // The parts of a string.
 mod search;
 
+use rules::kind;
 pub use search::parts;
 ghost use mathlib.Core.Path.{_≡_};
 ghost use Rattle.list.specs.Entries.{entryMeant};
-ghost use Rattle.cst.specs.Meaning.{partMeant, knownMeant, ifPart};
+ghost use Rattle.cst.specs.Meaning.{partMeant, asPartMeant, ifPart};
 use list::Entry;
 use source::Refusal;
 use source::Span;
@@ -26,7 +27,7 @@ pub enum StringPart {
 }
 
 // The part that an entry of a list is, or none.
-pub enum Known {
+pub enum AsPart {
     Part(StringPart),
     NoPart,
 }
@@ -50,20 +51,20 @@ pub struct Open {
 }
 
 // What a lexeme does that does not end the search: it is passed over, with what is open after it, or completes a part.
-pub enum Move {
+pub enum Progress {
     Passes(Open),
     Yields(StringPart),
 }
 
 // What ends the search: the closer, or a refusal.
-pub enum Stop {
+pub enum Ending {
     Closes,
     Refuses(u8, Span),
 }
 
-pub enum Turn {
-    Goes(Move),
-    Stops(Stop),
+pub enum Effect {
+    Goes(Progress),
+    Stops(Ending),
 }
 
 // A part as an entry of a list.
@@ -71,27 +72,33 @@ pub fn entry(part: StringPart) -> Entry
     ensures { λ r. ⌜ entryMeant r ≡ partMeant part ⌝ }
 {
     match part {
-        StringPart::String(span) => Entry { kind: 10, at: span },
+        StringPart::String(span) => Entry {
+            kind: kind::STRING_INNER,
+            at: span,
+        },
         StringPart::Escape(span, escape) => Entry {
             kind: token::escape_code(escape),
             at: span,
         },
-        StringPart::Hole(span) => Entry { kind: 14, at: span },
+        StringPart::Hole(span) => Entry {
+            kind: kind::HOLE_OPEN,
+            at: span,
+        },
     }
 }
 
 // An entry of a list as a part.
-pub fn part(entry: Entry) -> Known
-    ensures { λ r. ⌜ knownMeant r ≡ ifPart (entryMeant entry) ⌝ }
+pub fn part(entry: Entry) -> AsPart
+    ensures { λ r. ⌜ asPartMeant r ≡ ifPart (entryMeant entry) ⌝ }
 {
     let span = entry.at;
     let kind = entry.kind;
     match kind {
-        10 => Known::Part(StringPart::String(span)),
-        11 => Known::Part(StringPart::Escape(span, Escape::Single)),
-        12 => Known::Part(StringPart::Escape(span, Escape::Unicode4)),
-        13 => Known::Part(StringPart::Escape(span, Escape::UnicodeDelim)),
-        14 => Known::Part(StringPart::Hole(span)),
-        _ => Known::NoPart,
+        kind::STRING_INNER => AsPart::Part(StringPart::String(span)),
+        kind::SINGLE => AsPart::Part(StringPart::Escape(span, Escape::Single)),
+        kind::UNICODE4 => AsPart::Part(StringPart::Escape(span, Escape::Unicode4)),
+        kind::UNICODE_DELIM => AsPart::Part(StringPart::Escape(span, Escape::UnicodeDelim)),
+        kind::HOLE_OPEN => AsPart::Part(StringPart::Hole(span)),
+        _ => AsPart::NoPart,
     }
 }

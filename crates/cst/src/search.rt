@@ -2,114 +2,66 @@
 ghost use mathlib.Core.Path.{_≡_};
 ghost use Prim.Native.Nat.{_+_, _<_, _^_};
 ghost use lib.Dec.{eqb};
-ghost use Rattle.rules.specs.Kinds.{QuoteClose, HoleOpen, isQuoteOpen};
-ghost use mathlib.Core.Bool.{false, cond, _||_};
 ghost use Rattle.rules.specs.Refusals.{NoString};
 ghost use Rattle.rules.specs.Spans.{nowhere, isBad};
-ghost use Rattle.rules.specs.Parts.{atDepth1, holeEnds, deeper as deeperRule, turn, closes, refuses, passes, yields, partsFrom, lexemesFrom, ListsParts};
+ghost use Rattle.rules.specs.Kinds.{QuoteClose};
+ghost use Rattle.rules.specs.Lent.{lexemesFrom, arrays};
+ghost use Rattle.rules.specs.Parts.{atDepth1, holeEnds, deeper as deeperRule, effect, closes, refuses, passes, yields, partsFrom, ListsParts};
+ghost use mathlib.Core.Bool.{false, cond};
 ghost use Rattle.source.specs.Meaning.{spanMeant};
-ghost use Rattle.token.specs.Codes.{stateCode};
 ghost use Rattle.list.specs.Entries.{entryMeant};
 ghost use Rattle.cst.specs.Meaning.{partMeant, closerMeant};
-ghost use Rattle.cst.specs.Search.{moveMeant, turnMeant, openMeant, CanTurn, openerTurn, orFull, openAfter, partsAfter, answerAt, HasRoom, Wrote, Before, Searched};
+ghost use Rattle.cst.specs.Search.{progressMeant, effectMeant, openMeant, CanCount, openerEffect, orFull, openAfter, partsAfter, answerAt, HasRoom, Wrote, Before, Searched};
+use crate::AsPart;
 use crate::Closer;
-use crate::Known;
-use crate::Move;
+use crate::Effect;
+use crate::Ending;
 use crate::Open;
 use crate::Parted;
-use crate::Stop;
+use crate::Progress;
 use crate::StringPart;
-use crate::Turn;
 use list::Entry;
+use rules::kind;
+use rules::refusal;
 use source::Span;
 use source::Spanned;
-use token::Opened;
-use token::State;
 
-fn refuses_with(number: u8, at: Span) -> Turn
-    ensures { λ r. ⌜ turnMeant r ≡ refuses number (spanMeant at) ⌝ }
+fn refuses_with(number: u8, at: Span) -> Effect
+    ensures { λ r. ⌜ effectMeant r ≡ refuses number (spanMeant at) ⌝ }
 {
-    Turn::Stops(Stop::Refuses(number, at))
+    Effect::Stops(Ending::Refuses(number, at))
 }
 
-fn passes_with(depth: usize, hole: Span) -> Turn
-    ensures { λ r. ⌜ turnMeant r ≡ passes depth (spanMeant hole) ⌝ }
+fn passes_with(depth: usize, hole: Span) -> Effect
+    ensures { λ r. ⌜ effectMeant r ≡ passes depth (spanMeant hole) ⌝ }
 {
-    Turn::Goes(Move::Passes(Open {
+    Effect::Goes(Progress::Passes(Open {
         depth: depth,
         hole: hole,
     }))
 }
 
-fn yields_part(part: StringPart) -> Turn
-    ensures { λ r. ⌜ turnMeant r ≡ yields (partMeant part) ⌝ }
+fn yields_part(part: StringPart) -> Effect
+    ensures { λ r. ⌜ effectMeant r ≡ yields (partMeant part) ⌝ }
 {
-    Turn::Goes(Move::Yields(part))
-}
-
-// "QuoteOpen": what it opens is a string.
-fn opens_string(state: State) -> bool
-    ensures { λ r. ⌜ r ≡ isQuoteOpen (stateCode state) ⌝ }
-{
-    match state {
-        State::String(_) => true,
-        State::Format(_) => true,
-        State::Hole => false,
-        State::Brace => false,
-        State::Paren => false,
-        State::Bracket => false,
-    }
-}
-
-fn is_quote_open(kind: u8) -> bool
-    ensures { λ r. ⌜ r ≡ isQuoteOpen kind ⌝ }
-{
-    let opened = token::state_of(kind);
-    let Opened::State(state) = opened else {
-        return false;
-    };
-    opens_string(state)
-}
-
-// "Openers (QuoteOpen, HoleOpen)": the brackets of an expression are none.
-fn counts(state: State) -> bool
-    ensures { λ r. ⌜ r ≡ (isQuoteOpen (stateCode state) || eqb (stateCode state) HoleOpen) ⌝ }
-{
-    match state {
-        State::String(_) => true,
-        State::Format(_) => true,
-        State::Hole => true,
-        State::Brace => false,
-        State::Paren => false,
-        State::Bracket => false,
-    }
-}
-
-fn is_opener(kind: u8) -> bool
-    ensures { λ r. ⌜ r ≡ (isQuoteOpen kind || eqb kind HoleOpen) ⌝ }
-{
-    let opened = token::state_of(kind);
-    let Opened::State(state) = opened else {
-        return false;
-    };
-    counts(state)
+    Effect::Goes(Progress::Yields(part))
 }
 
 // The closer of a hole: "a hole's span is the union of its two ends, and the 3 .. of that part comes at its closer".
-fn hole_ends(hole: Span, at: Span) -> Turn
+fn hole_ends(hole: Span, at: Span) -> Effect
     requires { ⌜ (isBad (spanMeant hole) ≡ false) × (isBad (spanMeant at) ≡ false) ⌝ }
-    ensures { λ r. ⌜ turnMeant r ≡ holeEnds (spanMeant hole) (spanMeant at) ⌝ }
+    ensures { λ r. ⌜ effectMeant r ≡ holeEnds (spanMeant hole) (spanMeant at) ⌝ }
 {
     let union = hole.union(at);
     let Spanned::Made(span) = union else {
-        return refuses_with(3, source::nowhere());
+        return refuses_with(refusal::BAD_SPAN, source::nowhere());
     };
     yields_part(StringPart::Hole(span))
 }
 
 // "At depth 1, StringInner and Escape are parts; a hole is one part .."
-fn part_at_depth1(part: StringPart) -> Turn
-    ensures { λ r. ⌜ turnMeant r ≡ atDepth1 (partMeant part) ⌝ }
+fn part_at_depth1(part: StringPart) -> Effect
+    ensures { λ r. ⌜ effectMeant r ≡ atDepth1 (partMeant part) ⌝ }
 {
     match part {
         StringPart::String(_) => yields_part(part),
@@ -119,36 +71,36 @@ fn part_at_depth1(part: StringPart) -> Turn
 }
 
 // ".. a QuoteClose met at depth 1 ends; any other kind at depth 1 .. gives 50"
-fn no_part_at_depth1(entry: Entry) -> Turn
-    ensures { λ r. ⌜ turnMeant r ≡ cond (eqb (entryMeant entry .kind) QuoteClose) closes (refuses NoString (entryMeant entry .at)) ⌝ }
+fn no_part_at_depth1(entry: Entry) -> Effect
+    ensures { λ r. ⌜ effectMeant r ≡ cond (eqb (entryMeant entry .kind) QuoteClose) closes (refuses NoString (entryMeant entry .at)) ⌝ }
 {
-    if entry.kind == 9 {
-        return Turn::Stops(Stop::Closes);
+    if entry.kind == kind::QUOTE_CLOSE {
+        return Effect::Stops(Ending::Closes);
     }
-    refuses_with(50, entry.at)
+    refuses_with(refusal::NO_STRING, entry.at)
 }
 
-fn at_depth1(entry: Entry) -> Turn
-    ensures { λ r. ⌜ turnMeant r ≡ atDepth1 (entryMeant entry) ⌝ }
+fn at_depth1(entry: Entry) -> Effect
+    ensures { λ r. ⌜ effectMeant r ≡ atDepth1 (entryMeant entry) ⌝ }
 {
     let known = crate::part(entry);
-    let Known::Part(part) = known else {
+    let AsPart::Part(part) = known else {
         return no_part_at_depth1(entry);
     };
     part_at_depth1(part)
 }
 
 // "Openers (QuoteOpen, HoleOpen) add one, closers take one"; "Deeper, other kinds are passed over"
-fn deeper(opened: Open, entry: Entry) -> Turn
-    requires { ⌜ CanTurn opened × (isBad (entryMeant entry .at) ≡ false) ⌝ }
-    ensures { λ r. ⌜ turnMeant r ≡ deeperRule (opened .depth) (spanMeant (opened .hole)) (entryMeant entry) ⌝ }
+fn deeper(opened: Open, entry: Entry) -> Effect
+    requires { ⌜ CanCount opened × (isBad (entryMeant entry .at) ≡ false) ⌝ }
+    ensures { λ r. ⌜ effectMeant r ≡ deeperRule (opened .depth) (spanMeant (opened .hole)) (entryMeant entry) ⌝ }
 {
     let kind = entry.kind;
     let depth = opened.depth;
-    if is_opener(kind) {
+    if token::opens_string_or_hole(kind) {
         return passes_with(depth + 1, opened.hole);
     }
-    if (kind != 9) & (kind != 15) {
+    if (kind != kind::QUOTE_CLOSE) & (kind != kind::HOLE_CLOSE) {
         return passes_with(depth, opened.hole);
     }
     if depth == 2 {
@@ -158,13 +110,13 @@ fn deeper(opened: Open, entry: Entry) -> Turn
 }
 
 // "Per lexeme: 3, 50"
-fn turn_at(opened: Open, entry: Entry) -> Turn
-    requires { ⌜ CanTurn opened ⌝ }
-    ensures { λ r. ⌜ turnMeant r ≡ turn (opened .depth) (spanMeant (opened .hole)) (entryMeant entry) ⌝ }
+fn effect_at(opened: Open, entry: Entry) -> Effect
+    requires { ⌜ CanCount opened ⌝ }
+    ensures { λ r. ⌜ effectMeant r ≡ effect (opened .depth) (spanMeant (opened .hole)) (entryMeant entry) ⌝ }
 {
     let at = entry.at;
     if at.is_bad() {
-        return refuses_with(3, source::nowhere());
+        return refuses_with(refusal::BAD_SPAN, source::nowhere());
     }
     if opened.depth == 1 {
         return at_depth1(entry);
@@ -173,44 +125,44 @@ fn turn_at(opened: Open, entry: Entry) -> Turn
 }
 
 // ", 31": a part for which the list has no place.
-fn next(opened: Open, parts: usize, entry: Entry, room: usize) -> Turn
-    requires { ⌜ CanTurn opened ⌝ }
-    ensures { λ r. ⌜ turnMeant r ≡ orFull room parts (turn (opened .depth) (spanMeant (opened .hole)) (entryMeant entry)) ⌝ }
+fn next(opened: Open, parts: usize, entry: Entry, room: usize) -> Effect
+    requires { ⌜ CanCount opened ⌝ }
+    ensures { λ r. ⌜ effectMeant r ≡ orFull room parts (effect (opened .depth) (spanMeant (opened .hole)) (entryMeant entry)) ⌝ }
 {
-    let answer = turn_at(opened, entry);
-    let Turn::Goes(moved) = answer else {
+    let answer = effect_at(opened, entry);
+    let Effect::Goes(moved) = answer else {
         return answer;
     };
-    let Move::Yields(part) = moved else {
+    let Progress::Yields(part) = moved else {
         return answer;
     };
     if room <= parts {
         let listed = crate::entry(part);
-        return refuses_with(31, listed.at);
+        return refuses_with(refusal::LIST_FULL, listed.at);
     }
     answer
 }
 
 // The opener: "or a start that is no QuoteOpen, gives 50".
-fn opener_turn(entry: Entry) -> Turn
-    ensures { λ r. ⌜ turnMeant r ≡ openerTurn (entryMeant entry) ⌝ }
+fn opener_effect(entry: Entry) -> Effect
+    ensures { λ r. ⌜ effectMeant r ≡ openerEffect (entryMeant entry) ⌝ }
 {
     let at = entry.at;
     if at.is_bad() {
-        return refuses_with(3, source::nowhere());
+        return refuses_with(refusal::BAD_SPAN, source::nowhere());
     }
-    if is_quote_open(entry.kind) {
+    if token::is_quote_open(entry.kind) {
         return passes_with(1, source::nowhere());
     }
-    refuses_with(50, at)
+    refuses_with(refusal::NO_STRING, at)
 }
 
 // Writes the part that a lexeme completes, if it does.
-fn write(moved: Move, parts: usize, pkinds: &mut [u8], pwords: &mut [u64])
-    requires { ⌜ HasRoom (moveMeant moved) parts (now pkinds) (now pwords) ⌝ }
-    ensures { λ _. ⌜ Wrote (moveMeant moved) parts (now (pkinds .entry)) (now (pwords .entry)) (now (pkinds .exit)) (now (pwords .exit)) ⌝ }
+fn write(moved: Progress, parts: usize, pkinds: &mut [u8], pwords: &mut [u64])
+    requires { ⌜ HasRoom (progressMeant moved) parts (now pkinds) (now pwords) ⌝ }
+    ensures { λ _. ⌜ Wrote (progressMeant moved) parts (now (pkinds .entry)) (now (pwords .entry)) (now (pkinds .exit)) (now (pwords .exit)) ⌝ }
 {
-    let Move::Yields(part) = moved else {
+    let Progress::Yields(part) = moved else {
         return;
     };
     let listed = crate::entry(part);
@@ -218,12 +170,12 @@ fn write(moved: Move, parts: usize, pkinds: &mut [u8], pwords: &mut [u64])
 }
 
 // What is open after a lexeme.
-fn open_after(moved: Move) -> Open
-    ensures { λ r. ⌜ openMeant r ≡ openAfter (moveMeant moved) ⌝ }
+fn open_after(moved: Progress) -> Open
+    ensures { λ r. ⌜ openMeant r ≡ openAfter (progressMeant moved) ⌝ }
 {
     match moved {
-        Move::Passes(opened) => opened,
-        Move::Yields(_) => Open {
+        Progress::Passes(opened) => opened,
+        Progress::Yields(_) => Open {
             depth: 1,
             hole: source::nowhere(),
         },
@@ -231,26 +183,26 @@ fn open_after(moved: Move) -> Open
 }
 
 // How many parts are listed after a lexeme.
-fn parts_after(moved: Move, parts: usize) -> usize
+fn parts_after(moved: Progress, parts: usize) -> usize
     requires { ⌜ parts + 1 < 2 ^ 64 ⌝ }
-    ensures { λ r. ⌜ r ≡ partsAfter (moveMeant moved) parts ⌝ }
+    ensures { λ r. ⌜ r ≡ partsAfter (progressMeant moved) parts ⌝ }
 {
     match moved {
-        Move::Passes(_) => parts,
-        Move::Yields(_) => parts + 1,
+        Progress::Passes(_) => parts,
+        Progress::Yields(_) => parts + 1,
     }
 }
 
 // The answer where the search stops at a place.
-fn stopped(turn: Turn, place: usize) -> Closer
-    ensures { λ r. ⌜ closerMeant r ≡ answerAt place (turnMeant turn) ⌝ }
+fn stopped(turn: Effect, place: usize) -> Closer
+    ensures { λ r. ⌜ closerMeant r ≡ answerAt place (effectMeant turn) ⌝ }
 {
-    let Turn::Stops(stop) = turn else {
+    let Effect::Stops(stop) = turn else {
         return Closer::At(place);
     };
     match stop {
-        Stop::Closes => Closer::At(place),
-        Stop::Refuses(number, at) => Closer::Refused(source::refuse(number, at)),
+        Ending::Closes => Closer::At(place),
+        Ending::Refuses(number, at) => Closer::Refused(source::refuse(number, at)),
     }
 }
 
@@ -264,7 +216,7 @@ fn search(
     pwords: &mut [u64],
 ) -> Parted
     requires { ⌜ Before start end (now kinds) (now words) ⌝ }
-    ensures { λ r. ⌜ Searched (partsFrom start 1 nowhere (lexemesFrom (now (kinds .entry)) (now (words .entry)) end start)) (closerMeant (r .answer)) (r .parts) (now (pkinds .entry)) (now (pwords .entry)) (now (pkinds .exit)) (now (pwords .exit)) ⌝ }
+    ensures { λ r. ⌜ Searched (partsFrom start 1 nowhere (lexemesFrom (arrays (now (kinds .entry)) (now (words .entry))) end start)) (closerMeant (r .answer)) (r .parts) (arrays (now (pkinds .entry)) (now (pwords .entry))) (arrays (now (pkinds .exit)) (now (pwords .exit))) ⌝ }
 {
     let room = list::places(pkinds, pwords);
     let mut place = start;
@@ -275,11 +227,11 @@ fn search(
     };
     let answer = loop {
         if end <= place {
-            break Closer::Refused(source::refuse(50, source::nowhere()));
+            break Closer::Refused(source::refuse(refusal::NO_STRING, source::nowhere()));
         }
         let entry = list::get(kinds, words, place);
         let turn = next(opened, parts, entry, room);
-        let Turn::Goes(moved) = turn else {
+        let Effect::Goes(moved) = turn else {
             break stopped(turn, place);
         };
         write(moved, parts, pkinds, pwords);
@@ -302,18 +254,18 @@ pub fn parts(
     pkinds: &mut [u8],
     pwords: &mut [u64],
 ) -> Parted
-    ensures { λ r. ⌜ ListsParts (now (kinds .entry)) (now (words .entry)) count place (now (pkinds .entry)) (now (pwords .entry)) (closerMeant (r .answer)) (r .parts) (now (pkinds .exit)) (now (pwords .exit)) ⌝ }
+    ensures { λ r. ⌜ ListsParts (arrays (now (kinds .entry)) (now (words .entry))) count place (arrays (now (pkinds .entry)) (now (pwords .entry))) (closerMeant (r .answer)) (r .parts) (arrays (now (pkinds .exit)) (now (pwords .exit))) ⌝ }
 {
     let end = list::end(kinds, words, count);
     if end <= place {
         return Parted {
-            answer: Closer::Refused(source::refuse(50, source::nowhere())),
+            answer: Closer::Refused(source::refuse(refusal::NO_STRING, source::nowhere())),
             parts: 0,
         };
     }
     let opener = list::get(kinds, words, place);
-    let turn = opener_turn(opener);
-    let Turn::Goes(_) = turn else {
+    let turn = opener_effect(opener);
+    let Effect::Goes(_) = turn else {
         return Parted {
             answer: stopped(turn, place),
             parts: 0,

@@ -7,8 +7,9 @@ use borrow.Author.Tests.{leb-true, ltb-false}
 use lib.Dec.{leb, ltb}
 use lib.ListN.{length, take, drop}
 use Rattle.rules.specs.Refusals.{WrongForm}
-use Rattle.rules.specs.Spans.{Span, span, limit, Refusal, Answer, given, refused, refuse, isBad, Verdict, accepted, newSpan, resolved}
-use Rattle.rules.specs.Escapes.{verdictOn}
+use Rattle.rules.specs.Spans.{Span, span, limit, isBad}
+use Rattle.rules.specs.Answers.{Refusal, Answer, given, refused, refuse, Verdict, accepted, verdictOn}
+use Rattle.rules.specs.Source.{newSpan, resolved}
 use Rattle.rules.specs.Value.{orEmpty}
 use Rattle.rules.proofs.Text.{decide}
 use Rattle.hand.specs.Meaning.{partCheck}

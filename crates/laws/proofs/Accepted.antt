@@ -6,12 +6,12 @@ use native.Mathlib.Omega.{arith}
 use lib.ListN.{take, drop, length, length-append, take-append-drop}
 use lib.Seq.{length-take-le, take-append-seam, drop-append-seam}
 use Rattle.rules.specs.Step.{Step, found, stop, step}
-use Rattle.rules.specs.Lexing.{Piece, piece, ended, stopped, Trace, after, innermost, codesAfter, traceFrom, joined}
+use Rattle.rules.specs.Lexing.{Taken, taken, ended, stopped, Trace, after, innermost, codesAfter, traceFrom, joined}
 use Rattle.rules.proofs.Bounds.{found-inside}
 use Rattle.rules.proofs.Trace.{trace-found, trace-ended}
 
 -- steps of a text, where these codes are open before them and nothing is open after them
-abbrev pub Accepted : (openers : List ℕ) → List Piece → Type 0
+abbrev pub Accepted : (openers : List ℕ) → List Taken → Type 0
 Accepted openers [] = openers ≡ []
 Accepted openers (p ∷ ps) =
     (step (innermost openers) (p .bytes ++ joined ps) ≡ found (p .kind) (length (p .bytes)))
@@ -28,9 +28,9 @@ step-cases (found k n) f g = f k n refl
 step-cases (stop number from n) f g = g number from n refl
 
 -- one step more in front of such steps
-accepted-more : (openers : List ℕ) (b : ℕ) (s : List ℕ) (k n : ℕ) (ps : List Piece) →
+accepted-more : (openers : List ℕ) (b : ℕ) (s : List ℕ) (k n : ℕ) (ps : List Taken) →
     step (innermost openers) (b ∷ s) ≡ found k n → joined ps ≡ drop (pred n) s → Accepted (codesAfter openers k) ps →
-    (joined (piece k (take n (b ∷ s)) ∷ ps) ≡ b ∷ s) × Accepted openers (piece k (take n (b ∷ s)) ∷ ps)
+    (joined (taken k (take n (b ∷ s)) ∷ ps) ≡ b ∷ s) × Accepted openers (taken k (take n (b ∷ s)) ∷ ps)
 accepted-more openers b s k zero ps e j a = absurd (omega (arith, found-inside (innermost openers) (b ∷ s) k 0 (omega arith) e .0))
 accepted-more openers b s k (suc n) ps e j a =
     let inside : suc n ≤ suc (length s) = found-inside (innermost openers) (b ∷ s) k (suc n) (omega arith) e .1 in
@@ -40,7 +40,7 @@ accepted-more openers b s k (suc n) ps e j a =
 
 -- lexing gives such steps, where some bytes at the front belong to the step before
 sound-from : (openers : List ℕ) (skip : ℕ) (s : List ℕ) → skip ≤ length s → (traceFrom openers skip s) .end ≡ ended →
-    (joined ((traceFrom openers skip s) .pieces) ≡ drop skip s) × Accepted openers ((traceFrom openers skip s) .pieces)
+    (joined ((traceFrom openers skip s) .taken) ≡ drop skip s) × Accepted openers ((traceFrom openers skip s) .taken)
 unfolding traceFrom
 sound-from [] zero [] le e = (refl, refl)
 sound-from (k ∷ openers) zero [] le e = stopped-ended e
@@ -50,15 +50,15 @@ sound-from openers zero (b ∷ s) le e = step-cases (step (innermost openers) (b
     (λ k n f.
     let inside = found-inside (innermost openers) (b ∷ s) k n (omega arith) f in
     let more = sound-from (codesAfter openers k) (pred n) s (omega arith) (rw f at e) in
-    rw f (accepted-more openers b s k n ((traceFrom (codesAfter openers k) (pred n) s) .pieces) f (more .0) (more .1)))
+    rw f (accepted-more openers b s k n ((traceFrom (codesAfter openers k) (pred n) s) .taken) f (more .0) (more .1)))
     (λ number from n f. stopped-ended (rw f at e))
 
 -- lexing gives such steps, and their bytes are the text's
-pub accepted-sound : (openers s : List ℕ) → (traceFrom openers 0 s) .end ≡ ended → (joined ((traceFrom openers 0 s) .pieces) ≡ s) × Accepted openers ((traceFrom openers 0 s) .pieces)
+pub accepted-sound : (openers s : List ℕ) → (traceFrom openers 0 s) .end ≡ ended → (joined ((traceFrom openers 0 s) .taken) ≡ s) × Accepted openers ((traceFrom openers 0 s) .taken)
 accepted-sound openers s e = sound-from openers 0 s zero-le e
 
 -- such steps are what lexing their bytes gives
-pub accepted-complete : (openers : List ℕ) (ps : List Piece) → Accepted openers ps → traceFrom openers 0 (joined ps) ≡ record { pieces = ps; end = ended }
+pub accepted-complete : (openers : List ℕ) (ps : List Taken) → Accepted openers ps → traceFrom openers 0 (joined ps) ≡ record { taken = ps; end = ended }
 accepted-complete openers [] a = rw a (trace-ended [] [] refl)
 accepted-complete openers (p ∷ ps) a =
     let w : List ℕ = p .bytes in

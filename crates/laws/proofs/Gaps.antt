@@ -7,7 +7,7 @@ use lib.Dec.{eqb}
 use Rattle.rules.specs.Text.{ascii}
 use Rattle.rules.specs.Kinds.{Blank, Shebang, LineComment, StringInner, HoleClose, isQuoteOpen, isEscape}
 use Rattle.rules.specs.Tidy.{gap}
-use Rattle.laws.proofs.Given.{isLine}
+use Rattle.laws.proofs.StepKinds.{isLine}
 use Rattle.laws.proofs.Modes.{stringAfter}
 
 -- nothing in a string and beside a Blank, one byte of whitespace otherwise

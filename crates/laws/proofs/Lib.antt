@@ -1,8 +1,6 @@
 -- Why demand 3 holds of the definitions of `rules`.
 
 -- The account of every byte, and of lent memory.
--- the steps of any text are a front of it
-pub mod Front
 -- no two Spaces follow each other
 pub mod Spaces
 -- every opener has its closer
@@ -28,7 +26,7 @@ pub mod Follow
 -- the steps of an accepted text
 pub mod Accepted
 -- which kinds a step gives, and where runs end
-pub mod Given
+pub mod StepKinds
 -- in a string or outside, after a lexeme
 pub mod Modes
 -- the gap rule by cases
@@ -38,24 +36,20 @@ pub mod Respaced
 -- cutting UTF-8 texts between two characters
 pub mod Cuts
 -- every lexeme ends there
-pub mod Seams
+pub mod CharacterEnds
 -- the re-spaced text is UTF-8
 pub mod Validity
 -- Two accepted texts with the same lexemes cannot be told apart.
--- lent memory is spent on lexemes alone
-pub mod Spent
--- what is listed shows the lexemes
-pub mod Listing
 -- answers that are the same but for their spans
-pub mod Agree
+pub mod SameButSpans
 -- the tidy writer
 pub mod Tidying
 -- the parts of a string
-pub mod Likeness
+pub mod SameParts
 -- the value of a string
 pub mod Values
 -- lexing, tidying and values together
-pub mod Alike
+pub mod SameAnswers
 -- Demand 3, over the definitions and at the calls.
 pub mod Demand3
 pub mod Calls

@@ -13,7 +13,7 @@ use Rattle.rules.specs.Lexing.{innermost, openAfter, codesAfter}
 use Rattle.rules.proofs.Text.{decide, either}
 use Rattle.rules.proofs.Every.{implied}
 use Rattle.rules.proofs.Bounds.{found-kind}
-use Rattle.laws.proofs.Given.{isOfString, mayStand, step-kind, and-left, and-right}
+use Rattle.laws.proofs.StepKinds.{isOfString, mayStand, step-kind, and-left, and-right}
 
 -- kinds after which the text goes on in a string
 abbrev pub stringAfter : ℕ → Bool

@@ -7,9 +7,8 @@ use native.Mathlib.Omega.{arith}
 use borrow.Author.Tests.{eqb-true}
 use lib.ListN.{length}
 use Rattle.rules.specs.Kinds.{Space, isSpace, isOpener, isCloser}
-use Rattle.rules.specs.Lexing.{Piece, depthAfter, lexemesOf, deepestFrom}
+use Rattle.rules.specs.Lexing.{Taken, depthAfter, lexemesOf, deepestFrom, openAfterAll}
 use Rattle.rules.proofs.Text.{decide}
-use Rattle.laws.specs.Demand3.{openAfterAll}
 
 -- a Space opens and closes nothing
 pub depth-space : (depth k : ℕ) → isSpace k ≡ true → depthAfter depth k ≡ depth
@@ -29,7 +28,7 @@ depth-step depth k = cases (isOpener k) (isCloser k)
     cases false false = (omega arith, omega arith)
 
 -- what is open before some steps is closed by a lexeme each, or open after them
-pub open-left : (depth : ℕ) (ps : List Piece) → depth ≤ length (lexemesOf ps) + openAfterAll depth ps
+pub open-left : (depth : ℕ) (ps : List Taken) → depth ≤ length (lexemesOf ps) + openAfterAll depth ps
 open-left depth [] = omega arith
 open-left depth (p ∷ ps) =
     let more = open-left (depthAfter depth (p .kind)) ps in
@@ -38,7 +37,7 @@ open-left depth (p ∷ ps) =
     (λ e. rw e (omega (arith, more, depth-step depth (p .kind))))
 
 -- the deepest nesting, doubled, is at most the lexemes and what is open before and after them
-pub deepest-twice : (depth : ℕ) (ps : List Piece) → 2 * deepestFrom depth ps ≤ depth + length (lexemesOf ps) + openAfterAll depth ps
+pub deepest-twice : (depth : ℕ) (ps : List Taken) → 2 * deepestFrom depth ps ≤ depth + length (lexemesOf ps) + openAfterAll depth ps
 deepest-twice depth [] = omega arith
 deepest-twice depth (p ∷ ps) =
     let more = deepest-twice (depthAfter depth (p .kind)) ps in
@@ -52,6 +51,6 @@ deepest-twice depth (p ∷ ps) =
     rw e (omega (arith, more, here′, depth-step depth (p .kind))))
 
 -- what is open before some steps is nested as deep
-pub depth-deepest : (depth : ℕ) (ps : List Piece) → depth ≤ deepestFrom depth ps
+pub depth-deepest : (depth : ℕ) (ps : List Taken) → depth ≤ deepestFrom depth ps
 depth-deepest depth [] = omega arith
 depth-deepest depth (p ∷ ps) = omega arith

@@ -11,65 +11,65 @@ use Rattle.rules.specs.Text.{ascii, is, begins, starts, run, join}
 use Rattle.rules.specs.Bytes.{isWhitespace, isNotLF}
 use Rattle.rules.specs.Kinds.{Space, Blank, Shebang, LineComment, PlainDouble, PlainTriple, FormatDouble, FormatTriple, StringInner, HoleClose, isSpace, isQuoteOpen, isTriple, isOpener, isCloser}
 use Rattle.rules.specs.Step.{found, whitespace, outside, isInner, inside, step}
-use Rattle.rules.specs.Lexing.{Piece, piece, ended, innermost, openAfter, codesAfter, traceFrom, lexemesOf, joined}
+use Rattle.rules.specs.Lexing.{Taken, taken, ended, innermost, openAfter, codesAfter, traceFrom, lexemesOf, joined}
 use Rattle.rules.specs.Tidy.{gap, spaced, spacedAfter}
 use Rattle.rules.proofs.Text.{decide, either, is-code, is-another, run-append}
 use Rattle.rules.proofs.Every.{implied}
 use Rattle.rules.proofs.Bounds.{found-kind}
 use Rattle.laws.proofs.Follow.{endOrWhitespace, follows, FollowsInside, outside-follows, inside-follows}
 use Rattle.laws.proofs.Accepted.{Accepted, accepted-sound, accepted-complete}
-use Rattle.laws.proofs.Given.{isOfString, isBlankOrSpace, isLine, step-outside, step-inside, step-kind, whitespace-run, line-run, outside-whitespace, whitespace-first, inner-run, quote-in-triple, quote-in-double}
+use Rattle.laws.proofs.StepKinds.{isOfString, isBlankOrSpace, isLine, step-outside, step-inside, step-kind, whitespace-run, line-run, outside-whitespace, whitespace-first, inner-run, quote-in-triple, quote-in-double}
 use Rattle.laws.proofs.Modes.{stringAfter, nested, ModeAfter, mode-after}
 use Rattle.laws.proofs.Gaps.{gap-cases, gap-in-string, gap-after-blank, gap-before-blank, gap-byte}
 
 -- a gap as a step
-abbrev pub gapThen : List ℕ → List Piece → List Piece
+abbrev pub gapThen : List ℕ → List Taken → List Taken
 gapThen [] ps = ps
-gapThen (b ∷ w) ps = piece Space (b ∷ w) ∷ ps
+gapThen (b ∷ w) ps = taken Space (b ∷ w) ∷ ps
 
 -- the steps of the re-spaced text, after a lexeme of a kind; a Blank's for the first, since after it there is no gap
-abbrev pub respacedAfter : (kind : ℕ) → List Piece → List Piece
+abbrev pub respacedAfter : (kind : ℕ) → List Taken → List Taken
 respacedAfter k [] = []
 respacedAfter k (p ∷ ps) = cond (isSpace (p .kind)) (respacedAfter k ps) (gapThen (gap k (p .kind)) (p ∷ respacedAfter (p .kind) ps))
 
 -- Their bytes: those of a gap and what follows
-gap-joined : (w : List ℕ) (ps : List Piece) → joined (gapThen w ps) ≡ w ++ joined ps
+gap-joined : (w : List ℕ) (ps : List Taken) → joined (gapThen w ps) ≡ w ++ joined ps
 gap-joined [] ps = refl
 gap-joined (b ∷ w) ps = refl
 
 -- the bytes after a lexeme of a kind
-joined-after : (k : ℕ) (ps : List Piece) → joined (respacedAfter k ps) ≡ join (spacedAfter k (lexemesOf ps))
+joined-after : (k : ℕ) (ps : List Taken) → joined (respacedAfter k ps) ≡ join (spacedAfter k (lexemesOf ps))
 joined-after k [] = refl
 joined-after k (p ∷ ps) = decide (isSpace (p .kind))
     (λ e. rw e (joined-after k ps))
     (λ e. rw (e, gap-joined (gap k (p .kind)) (p ∷ respacedAfter (p .kind) ps), joined-after (p .kind) ps) (sym (append-assoc (gap k (p .kind)) (p .bytes) (join (spacedAfter (p .kind) (lexemesOf ps))))))
 
 -- after a Blank there is no gap
-spaced-first : (ps : List Piece) → join (spacedAfter Blank ps) ≡ join (spaced ps)
+spaced-first : (ps : List Taken) → join (spacedAfter Blank ps) ≡ join (spaced ps)
 spaced-first [] = refl
 spaced-first (p ∷ ps) = rw (gap-after-blank (p .kind))
 
 -- their bytes are the re-spaced text
-pub respaced-joined : (ps : List Piece) → joined (respacedAfter Blank ps) ≡ join (spaced (lexemesOf ps))
+pub respaced-joined : (ps : List Taken) → joined (respacedAfter Blank ps) ≡ join (spaced (lexemesOf ps))
 respaced-joined ps = joined-after Blank ps ∙ spaced-first (lexemesOf ps)
 
 -- Their lexemes: a gap is none
-gap-lexemes : (w : List ℕ) (ps : List Piece) → lexemesOf (gapThen w ps) ≡ lexemesOf ps
+gap-lexemes : (w : List ℕ) (ps : List Taken) → lexemesOf (gapThen w ps) ≡ lexemesOf ps
 gap-lexemes [] ps = refl
 gap-lexemes (b ∷ w) ps = refl
 
 -- their lexemes are those of the text
-pub respaced-lexemes : (k : ℕ) (ps : List Piece) → lexemesOf (respacedAfter k ps) ≡ lexemesOf ps
+pub respaced-lexemes : (k : ℕ) (ps : List Taken) → lexemesOf (respacedAfter k ps) ≡ lexemesOf ps
 respaced-lexemes k [] = refl
 respaced-lexemes k (p ∷ ps) = decide (isSpace (p .kind))
     (λ e. rw e (respaced-lexemes k ps))
-    (λ e. rw (e, gap-lexemes (gap k (p .kind)) (p ∷ respacedAfter (p .kind) ps), e) (ap (λ (r : List Piece). p ∷ r) (respaced-lexemes (p .kind) ps)))
+    (λ e. rw (e, gap-lexemes (gap k (p .kind)) (p ∷ respacedAfter (p .kind) ps), e) (ap (λ (r : List Taken). p ∷ r) (respaced-lexemes (p .kind) ps)))
 
 -- What comes next: a Space is left out, a lexeme follows its gap
-next-dropped : (k : ℕ) (p : Piece) (ps : List Piece) → isSpace (p .kind) ≡ true → respacedAfter k (p ∷ ps) ≡ respacedAfter k ps
+next-dropped : (k : ℕ) (p : Taken) (ps : List Taken) → isSpace (p .kind) ≡ true → respacedAfter k (p ∷ ps) ≡ respacedAfter k ps
 next-dropped k p ps e = rw e
 
-next-lexeme : (k : ℕ) (p : Piece) (ps : List Piece) → isSpace (p .kind) ≡ false → respacedAfter k (p ∷ ps) ≡ gapThen (gap k (p .kind)) (p ∷ respacedAfter (p .kind) ps)
+next-lexeme : (k : ℕ) (p : Taken) (ps : List Taken) → isSpace (p .kind) ≡ false → respacedAfter k (p ∷ ps) ≡ gapThen (gap k (p .kind)) (p ∷ respacedAfter (p .kind) ps)
 next-lexeme k p ps e = rw e
 
 -- what is open stays so after a Space and after an inner part
@@ -95,7 +95,7 @@ run-rest test (b ∷ w) r e = decide (test b)
     (λ t. let z : 0 ≡ suc (length w) = rw t at e in absurd (omega arith))
 
 -- outside strings the first step is whitespace where the text starts so, and in the re-spaced text too
-first-outside : (openers : List ℕ) (p : Piece) (ps : List Piece) (r : List ℕ) → isQuoteOpen (innermost openers) ≡ false → Accepted openers (p ∷ ps) →
+first-outside : (openers : List ℕ) (p : Taken) (ps : List Taken) (r : List ℕ) → isQuoteOpen (innermost openers) ≡ false → Accepted openers (p ∷ ps) →
     starts isWhitespace (p .bytes ++ r) ≡ isBlankOrSpace (p .kind)
 first-outside openers p ps r q a =
     starts-front isWhitespace (p .bytes) r (joined ps) (a .1)
@@ -119,13 +119,13 @@ whitespace-ends [] e = absurd (false≢true e)
 whitespace-ends (b ∷ r) e = rw e
 
 -- and in each gap
-gap-ends : (line : Bool) (ps : List Piece) → endOrWhitespace (joined (gapThen (cond line (ascii "\n") (ascii " ")) ps)) ≡ true
+gap-ends : (line : Bool) (ps : List Taken) → endOrWhitespace (joined (gapThen (cond line (ascii "\n") (ascii " ")) ps)) ≡ true
 unfolding isWhitespace
 gap-ends true ps = refl
 gap-ends false ps = refl
 
 -- and so in the re-spaced text
-end-or-whitespace : (openers : List ℕ) (k : ℕ) (ps : List Piece) → eqb k Blank ≡ false → stringAfter k ≡ false → isQuoteOpen (innermost openers) ≡ false → Accepted openers ps →
+end-or-whitespace : (openers : List ℕ) (k : ℕ) (ps : List Taken) → eqb k Blank ≡ false → stringAfter k ≡ false → isQuoteOpen (innermost openers) ≡ false → Accepted openers ps →
     endOrWhitespace (joined (respacedAfter k ps)) ≡ true
 end-or-whitespace openers k [] x z q a = refl
 end-or-whitespace openers k (p ∷ ps) x z q a = decide (isSpace (p .kind))
@@ -136,7 +136,7 @@ end-or-whitespace openers k (p ∷ ps) x z q a = decide (isSpace (p .kind))
     (λ y. rw (gap-byte k (p .kind) x y z) (gap-ends (isLine k) (p ∷ respacedAfter (p .kind) ps)))))
 
 -- after a Blank no whitespace, where none followed it
-no-whitespace : (openers : List ℕ) (ps : List Piece) → isQuoteOpen (innermost openers) ≡ false → Accepted openers ps → starts isWhitespace (joined ps) ≡ false →
+no-whitespace : (openers : List ℕ) (ps : List Taken) → isQuoteOpen (innermost openers) ≡ false → Accepted openers ps → starts isWhitespace (joined ps) ≡ false →
     starts isWhitespace (joined (respacedAfter Blank ps)) ≡ false
 no-whitespace openers [] q a n = refl
 no-whitespace openers (p ∷ ps) q a n =
@@ -149,7 +149,7 @@ line-no-blank : (k : ℕ) → isLine k ≡ true → (eqb k Blank ≡ false) × (
 line-no-blank k l = either (eqb k Shebang) (eqb k LineComment) l (λ e. rw (eqb-true k Shebang e) (refl, refl)) (λ e. rw (eqb-true k LineComment e) (refl, refl))
 
 -- the gap after it is LF
-gap-line : (k : ℕ) (p : Piece) (ps : List Piece) → isLine k ≡ true → isBlankOrSpace (p .kind) ≡ false → starts isNotLF (joined (respacedAfter k (p ∷ ps))) ≡ false
+gap-line : (k : ℕ) (p : Taken) (ps : List Taken) → isLine k ≡ true → isBlankOrSpace (p .kind) ≡ false → starts isNotLF (joined (respacedAfter k (p ∷ ps))) ≡ false
 unfolding isNotLF
 gap-line k p ps l n =
     let h = or-false (isSpace (p .kind)) (eqb (p .kind) Blank) n in
@@ -157,7 +157,7 @@ gap-line k p ps l n =
     rw (next-lexeme k p ps (h .0), gap-byte k (p .kind) (b .0) (h .1) (b .1), l) refl
 
 -- after a Space comes no other whitespace
-after-space : (openers : List ℕ) (p q : Piece) (ps : List Piece) → isQuoteOpen (innermost openers) ≡ false → isSpace (p .kind) ≡ true → Accepted openers (p ∷ (q ∷ ps)) → isBlankOrSpace (q .kind) ≡ false
+after-space : (openers : List ℕ) (p q : Taken) (ps : List Taken) → isQuoteOpen (innermost openers) ≡ false → isSpace (p .kind) ≡ true → Accepted openers (p ∷ (q ∷ ps)) → isBlankOrSpace (q .kind) ≡ false
 after-space openers p q ps out e a =
     let r : List ℕ = joined (q ∷ ps) in
     let found-space = step-outside (innermost openers) (p .bytes ++ r) (found (p .kind) (length (p .bytes))) out (a .0) in
@@ -165,7 +165,7 @@ after-space openers p q ps out e a =
     sym (first-outside openers q ps (joined ps) out (rw (space-open openers (p .kind) e) at (a .2))) ∙ none-follows
 
 -- so LF or the end follows it, where one of them did
-line-end : (openers : List ℕ) (k : ℕ) (ps : List Piece) → isLine k ≡ true → isQuoteOpen (innermost openers) ≡ false → Accepted openers ps → starts isNotLF (joined ps) ≡ false →
+line-end : (openers : List ℕ) (k : ℕ) (ps : List Taken) → isLine k ≡ true → isQuoteOpen (innermost openers) ≡ false → Accepted openers ps → starts isNotLF (joined ps) ≡ false →
     starts isNotLF (joined (respacedAfter k ps)) ≡ false
 line-end openers k [] l q a n = refl
 line-end openers k (p ∷ ps) l q a n = decide (isSpace (p .kind))
@@ -174,7 +174,7 @@ line-end openers k (p ∷ ps) l q a n = decide (isSpace (p .kind))
     (λ y. rw (next-lexeme k p ps e, eqb-true (p .kind) Blank y, gap-before-blank k) (starts-front isNotLF (p .bytes) (joined (respacedAfter Blank ps)) (joined ps) (a .1) ∙ n))
     (λ y. gap-line k p ps l (rw (e, y))))
   where
-    go : (ps : List Piece) → Accepted openers (p ∷ ps) → isSpace (p .kind) ≡ true → starts isNotLF (joined (respacedAfter k ps)) ≡ false
+    go : (ps : List Taken) → Accepted openers (p ∷ ps) → isSpace (p .kind) ≡ true → starts isNotLF (joined (respacedAfter k ps)) ≡ false
     go [] a e = refl
     go (r ∷ ps) a e = gap-line k r ps l (after-space openers p r ps q e a)
 
@@ -183,14 +183,14 @@ of-string : (k : ℕ) → isOfString k ≡ true → isSpace k ≡ false
 of-string k o = decide (isSpace k) (λ e. let other : isOfString Space ≡ true = rw (eqb-true k Space e) at o in absurd (false≢true other)) (λ e. e)
 
 -- and no gap: every lexeme follows the one before, as it did
-next-in-string : (openers : List ℕ) (k : ℕ) (p : Piece) (ps : List Piece) → stringAfter k ≡ true → isQuoteOpen (innermost openers) ≡ true → Accepted openers (p ∷ ps) →
+next-in-string : (openers : List ℕ) (k : ℕ) (p : Taken) (ps : List Taken) → stringAfter k ≡ true → isQuoteOpen (innermost openers) ≡ true → Accepted openers (p ∷ ps) →
     respacedAfter k (p ∷ ps) ≡ p ∷ respacedAfter (p .kind) ps
 next-in-string openers k p ps s q a =
     let inner : isOfString (p .kind) ≡ true = step-kind (innermost openers) (p .bytes ++ joined ps) (p .kind) (length (p .bytes)) (a .0) .0 ∙ q in
     rw (next-lexeme k p ps (of-string (p .kind) inner), gap-in-string k (p .kind) s) refl
 
 -- so what follows starts as it did
-starts-in-string : (test : ℕ → Bool) (openers : List ℕ) (k : ℕ) (ps : List Piece) → stringAfter k ≡ true → isQuoteOpen (innermost openers) ≡ true → Accepted openers ps →
+starts-in-string : (test : ℕ → Bool) (openers : List ℕ) (k : ℕ) (ps : List Taken) → stringAfter k ≡ true → isQuoteOpen (innermost openers) ≡ true → Accepted openers ps →
     starts test (joined (respacedAfter k ps)) ≡ starts test (joined ps)
 starts-in-string test openers k [] s q a = refl
 starts-in-string test openers k (p ∷ ps) s q a = rw (next-in-string openers k p ps s q a) (starts-front test (p .bytes) (joined (respacedAfter (p .kind) ps)) (joined ps) (a .1))
@@ -201,7 +201,7 @@ quote-starts [] = refl
 quote-starts (b ∷ r) = and-true (is "\"" b)
 
 -- in triple quotes two quotes follow where two did: in a step of one byte, a quote is an inner part
-first-quotes : (openers : List ℕ) (k : ℕ) (w : List ℕ) (ps : List Piece) → isQuoteOpen (innermost openers) ≡ true → isTriple (innermost openers) ≡ true → Accepted openers (piece k w ∷ ps) →
+first-quotes : (openers : List ℕ) (k : ℕ) (w : List ℕ) (ps : List Taken) → isQuoteOpen (innermost openers) ≡ true → isTriple (innermost openers) ≡ true → Accepted openers (taken k w ∷ ps) →
     begins "\"\"" (w ++ joined (respacedAfter k ps)) ≡ begins "\"\"" (w ++ joined ps)
 first-quotes openers k [] ps q t a = absurd (omega (arith, a .1))
 first-quotes openers k (b ∷ (c ∷ w)) ps q t a = refl
@@ -216,7 +216,7 @@ first-quotes openers k (b ∷ []) ps q t a = decide (is "\"" b)
     (λ e. rw e refl)
 
 -- so after any lexeme in triple quotes
-quotes-in-triple : (openers : List ℕ) (k : ℕ) (ps : List Piece) → stringAfter k ≡ true → isQuoteOpen (innermost openers) ≡ true → isTriple (innermost openers) ≡ true → Accepted openers ps →
+quotes-in-triple : (openers : List ℕ) (k : ℕ) (ps : List Taken) → stringAfter k ≡ true → isQuoteOpen (innermost openers) ≡ true → isTriple (innermost openers) ≡ true → Accepted openers ps →
     begins "\"\"" (joined (respacedAfter k ps)) ≡ begins "\"\"" (joined ps)
 quotes-in-triple openers k [] s q t a = refl
 quotes-in-triple openers k (p ∷ ps) s q t a = rw (next-in-string openers k p ps s q a) (first-quotes openers (p .kind) (p .bytes) ps q t a)
@@ -230,7 +230,7 @@ no-quote (b ∷ r) e =
     rw (is-another isWhitespace "\"" b white refl) refl
 
 -- in a string of one quote, a quote closes it and the end or whitespace follows, so no two quotes follow the opening one
-first-closes : (openers : List ℕ) (k : ℕ) (w : List ℕ) (ps : List Piece) → nested openers ≡ true → isQuoteOpen (innermost openers) ≡ true → isTriple (innermost openers) ≡ false → Accepted openers (piece k w ∷ ps) →
+first-closes : (openers : List ℕ) (k : ℕ) (w : List ℕ) (ps : List Taken) → nested openers ≡ true → isQuoteOpen (innermost openers) ≡ true → isTriple (innermost openers) ≡ false → Accepted openers (taken k w ∷ ps) →
     begins "\"\"" (w ++ joined (respacedAfter k ps)) ≡ false
 first-closes openers k [] ps ne q t a = absurd (omega (arith, a .1))
 first-closes openers k (b ∷ w) ps ne q t a = decide (is "\"" b)
@@ -248,7 +248,7 @@ first-closes openers k (b ∷ w) ps ne q t a = decide (is "\"" b)
     go (c ∷ w) z n = absurd (omega arith)
 
 -- so after any lexeme in a string of one quote
-quotes-in-double : (openers : List ℕ) (k : ℕ) (ps : List Piece) → stringAfter k ≡ true → nested openers ≡ true → isQuoteOpen (innermost openers) ≡ true → isTriple (innermost openers) ≡ false → Accepted openers ps →
+quotes-in-double : (openers : List ℕ) (k : ℕ) (ps : List Taken) → stringAfter k ≡ true → nested openers ≡ true → isQuoteOpen (innermost openers) ≡ true → isTriple (innermost openers) ≡ false → Accepted openers ps →
     begins "\"\"" (joined (respacedAfter k ps)) ≡ false
 quotes-in-double openers k [] s ne q t a = refl
 quotes-in-double openers k (p ∷ ps) s ne q t a = rw (next-in-string openers k p ps s q a) (first-closes openers (p .kind) (p .bytes) ps ne q t a)
@@ -271,7 +271,7 @@ unfolding openAfter isOpener
 double-open openers k d = either (eqb k PlainDouble) (eqb k FormatDouble) d (λ e. rw (eqb-true k PlainDouble e) (refl, refl)) (λ e. rw (eqb-true k FormatDouble e) (refl, refl))
 
 -- each is followed by what `follows` asks for
-follows-respaced : (openers : List ℕ) (k : ℕ) (w : List ℕ) (ps : List Piece) → nested openers ≡ true → isQuoteOpen (innermost openers) ≡ false → isSpace k ≡ false → Accepted openers (piece k w ∷ ps) →
+follows-respaced : (openers : List ℕ) (k : ℕ) (w : List ℕ) (ps : List Taken) → nested openers ≡ true → isQuoteOpen (innermost openers) ≡ false → isSpace k ≡ false → Accepted openers (taken k w ∷ ps) →
     follows k (joined (respacedAfter k ps)) ≡ true
 unfolding follows
 follows-respaced openers k w ps ne q n a =
@@ -309,7 +309,7 @@ run-inner quote [] r some-bytes e = absurd (omega arith)
 run-inner quote (b ∷ w) r some-bytes e = run-rest (isInner quote) w r (omega arith)
 
 -- and each is followed by what `FollowsInside` asks for
-follows-inside : (openers : List ℕ) (k : ℕ) (w : List ℕ) (ps : List Piece) → isQuoteOpen (innermost openers) ≡ true → Accepted openers (piece k w ∷ ps) →
+follows-inside : (openers : List ℕ) (k : ℕ) (w : List ℕ) (ps : List Taken) → isQuoteOpen (innermost openers) ≡ true → Accepted openers (taken k w ∷ ps) →
     FollowsInside (innermost openers) k (joined ps) (joined (respacedAfter k ps))
 follows-inside openers k w ps q a =
     let after-inner : k ≡ StringInner → Accepted openers ps = λ i. let more : Accepted (codesAfter openers StringInner) ps = rw i at (a .2) in rw (inner-open openers) at more in
@@ -322,7 +322,7 @@ follows-inside openers k w ps q a =
     }
 
 -- so the step finds it again
-step-again : (openers : List ℕ) (k : ℕ) (w : List ℕ) (ps : List Piece) → nested openers ≡ true → isSpace k ≡ false → Accepted openers (piece k w ∷ ps) →
+step-again : (openers : List ℕ) (k : ℕ) (w : List ℕ) (ps : List Taken) → nested openers ≡ true → isSpace k ≡ false → Accepted openers (taken k w ∷ ps) →
     step (innermost openers) (w ++ joined (respacedAfter k ps)) ≡ found k (length w)
 unfolding step
 step-again openers k w ps ne n a = decide (isQuoteOpen (innermost openers))
@@ -340,14 +340,14 @@ unfolding step
 gap-step innermost b s q w n = rw (q, outside-whitespace innermost b s w) (whitespace-byte b s w n)
 
 -- and gives steps of a text with those after it
-gap-accepted : (openers : List ℕ) (line : Bool) (ps : List Piece) → isQuoteOpen (innermost openers) ≡ false → starts isWhitespace (joined ps) ≡ false → Accepted openers ps →
+gap-accepted : (openers : List ℕ) (line : Bool) (ps : List Taken) → isQuoteOpen (innermost openers) ≡ false → starts isWhitespace (joined ps) ≡ false → Accepted openers ps →
     Accepted openers (gapThen (cond line (ascii "\n") (ascii " ")) ps)
 unfolding isWhitespace
 gap-accepted openers true ps q n a = (gap-step (innermost openers) 10 (joined ps) q refl n, omega arith, rw (space-open openers Space refl) a)
 gap-accepted openers false ps q n a = (gap-step (innermost openers) 32 (joined ps) q refl n, omega arith, rw (space-open openers Space refl) a)
 
 -- The theorem after a lexeme of a kind, where something may be open
-accepted-after : (openers : List ℕ) (k : ℕ) (ps : List Piece) → ModeAfter openers k → Accepted openers ps → Accepted openers (respacedAfter k ps)
+accepted-after : (openers : List ℕ) (k : ℕ) (ps : List Taken) → ModeAfter openers k → Accepted openers ps → Accepted openers (respacedAfter k ps)
 accepted-after openers k [] m a = a
 accepted-after openers k (p ∷ ps) m a = decide (isSpace (p .kind))
     (λ e. rw (next-dropped k p ps e) (accepted-after openers k ps m (rw (space-open openers (p .kind) e) at (a .2))))
@@ -362,16 +362,16 @@ accepted-after openers k (p ∷ ps) m a = decide (isSpace (p .kind))
     gap-accepted openers (isLine k) (p ∷ respacedAfter (p .kind) ps) out none-first here)))
 
 -- the re-spaced text has those steps
-pub respaced-accepted : (ps : List Piece) → Accepted [] ps → Accepted [] (respacedAfter Blank ps)
+pub respaced-accepted : (ps : List Taken) → Accepted [] ps → Accepted [] (respacedAfter Blank ps)
 respaced-accepted ps a = accepted-after [] Blank ps (refl, refl) a
 
 -- and lexing it gives them
 pub respaced-trace : (text : List ℕ) → (traceFrom [] 0 text) .end ≡ ended →
-    traceFrom [] 0 (join (spaced (lexemesOf ((traceFrom [] 0 text) .pieces)))) ≡ record { pieces = respacedAfter Blank ((traceFrom [] 0 text) .pieces); end = ended }
+    traceFrom [] 0 (join (spaced (lexemesOf ((traceFrom [] 0 text) .taken)))) ≡ record { taken = respacedAfter Blank ((traceFrom [] 0 text) .taken); end = ended }
 respaced-trace text e =
-    let ps : List Piece = (traceFrom [] 0 text) .pieces in
+    let ps : List Taken = (traceFrom [] 0 text) .taken in
     rw (respaced-joined ps) at (accepted-complete [] (respacedAfter Blank ps) (respaced-accepted ps (accepted-sound [] text e .1)))
 
 -- re-spacing leaves a re-spaced text as it is
-pub respaced-again : (ps : List Piece) → join (spaced (lexemesOf (respacedAfter Blank ps))) ≡ join (spaced (lexemesOf ps))
-respaced-again ps = ap (λ (qs : List Piece). join (spaced qs)) (respaced-lexemes Blank ps)
+pub respaced-again : (ps : List Taken) → join (spaced (lexemesOf (respacedAfter Blank ps))) ≡ join (spaced (lexemesOf ps))
+respaced-again ps = ap (λ (qs : List Taken). join (spaced qs)) (respaced-lexemes Blank ps)

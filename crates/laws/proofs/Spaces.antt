@@ -10,11 +10,11 @@ use Rattle.rules.specs.Text.{starts, run}
 use Rattle.rules.specs.Bytes.{isWhitespace}
 use Rattle.rules.specs.Kinds.{isSpace, isQuoteOpen}
 use Rattle.rules.specs.Step.{Step, found, stop, exponent, fraction, decimal, prefixed, number, keywordOrIdent, identifier, whitespace, closer, monograph, punctuation, outside, unicodeDelim, unicode4, singleEscape, inside, step}
-use Rattle.rules.specs.Lexing.{Piece, codesAfter, innermost, lexemesOf, spacesOf, joined}
+use Rattle.rules.specs.Lexing.{Taken, codesAfter, innermost, lexemesOf, spacesOf, joined}
 use Rattle.rules.proofs.Text.{decide}
 use Rattle.rules.proofs.Bounds.{run-some}
 use Rattle.rules.proofs.Runs.{run-drop}
-use Rattle.laws.proofs.Front.{Steps}
+use Rattle.rules.proofs.Front.{Steps}
 
 -- what holds of a step that finds no Space
 abbrev NoSpace : Step → Type 0
@@ -135,12 +135,12 @@ two-spaces i i′ w s k k′ n e sp e′ = decide (isSpace k′)
     (λ no-space. no-space)
 
 -- the first step is a Space
-abbrev pub startsSpace : List Piece → Bool
+abbrev pub startsSpace : List Taken → Bool
 startsSpace [] = false
 startsSpace (p ∷ ps) = isSpace (p .kind)
 
 -- the step after a Space is none
-after-space : (rest openers : List ℕ) (p : Piece) (ps : List Piece) → Steps rest openers (p ∷ ps) → isSpace (p .kind) ≡ true → startsSpace ps ≡ false
+after-space : (rest openers : List ℕ) (p : Taken) (ps : List Taken) → Steps rest openers (p ∷ ps) → isSpace (p .kind) ≡ true → startsSpace ps ≡ false
 after-space rest openers p [] h e = refl
 after-space rest openers p (q ∷ ps) h e =
     let s : List ℕ = q .bytes ++ (joined ps ++ rest) in
@@ -148,7 +148,7 @@ after-space rest openers p (q ∷ ps) h e =
     two-spaces (innermost openers) (innermost (codesAfter openers (p .kind))) (p .bytes) s (p .kind) (q .kind) _ (rw together at (h .0)) e (h .2 .0)
 
 -- there is at most one Space more than lexemes, and none more where no Space is first
-pub few-spaces : (rest openers : List ℕ) (ps : List Piece) → Steps rest openers ps
+pub few-spaces : (rest openers : List ℕ) (ps : List Taken) → Steps rest openers ps
     → (length (spacesOf ps) ≤ length (lexemesOf ps) + 1) × (startsSpace ps ≡ false → length (spacesOf ps) ≤ length (lexemesOf ps))
 few-spaces rest openers [] h = (zero-le, λ e. zero-le)
 few-spaces rest openers (p ∷ ps) h =
@@ -158,12 +158,12 @@ few-spaces rest openers (p ∷ ps) h =
     (λ e. rw e (omega (arith, more .0), λ z. omega (arith, more .0)))
 
 -- every step is a lexeme or a Space
-pub steps-sum : (ps : List Piece) → length ps ≡ length (lexemesOf ps) + length (spacesOf ps)
+pub steps-sum : (ps : List Taken) → length ps ≡ length (lexemesOf ps) + length (spacesOf ps)
 steps-sum [] = refl
 steps-sum (p ∷ ps) = decide (isSpace (p .kind)) (λ e. rw e (omega (arith, steps-sum ps))) (λ e. rw e (omega (arith, steps-sum ps)))
 
 -- every byte is one of a lexeme or of a Space
-pub bytes-sum : (ps : List Piece) → length (joined ps) ≡ length (joined (lexemesOf ps)) + length (joined (spacesOf ps))
+pub bytes-sum : (ps : List Taken) → length (joined ps) ≡ length (joined (lexemesOf ps)) + length (joined (spacesOf ps))
 bytes-sum [] = refl
 bytes-sum (p ∷ ps) =
     let both = length-append (p .bytes) (joined ps) in
@@ -172,6 +172,6 @@ bytes-sum (p ∷ ps) =
     (λ e. rw e (omega (arith, bytes-sum ps, length-append (p .bytes) (joined (lexemesOf ps)))))
 
 -- every step has a byte
-pub steps-bytes : (rest openers : List ℕ) (ps : List Piece) → Steps rest openers ps → length ps ≤ length (joined ps)
+pub steps-bytes : (rest openers : List ℕ) (ps : List Taken) → Steps rest openers ps → length ps ≤ length (joined ps)
 steps-bytes rest openers [] h = zero-le
 steps-bytes rest openers (p ∷ ps) h = omega (arith, h .1, steps-bytes rest (codesAfter openers (p .kind)) ps (h .2), length-append (p .bytes) (joined ps))

@@ -4,77 +4,112 @@ use mathlib.Core.Path.{_≡_}
 use mathlib.Core.Bool.{false}
 use mathlib.Core.List.{List, map}
 use lib.ListN.{length, take}
-use Rattle.rules.specs.Spans.{limit, bytesAt, Answer, given, Verdict, accepted}
-use Rattle.rules.specs.Lexing.{traceIn, spacesOf, joined, Lexed, placesOf, lexemesIn, listing, Lexes}
-use Rattle.rules.specs.Value.{Where, Values, ChecksPart, HandsBack}
+use Rattle.rules.specs.Spans.{limit, bytesAt}
+use Rattle.rules.specs.Answers.{Answer, given, Verdict, accepted}
+use Rattle.rules.specs.Lent.{Lexeme, Arrays, contents, Lent, placesIn}
+use Rattle.rules.specs.Lexing.{traceIn, spacesOf, joined, Lexed, listing, Lexes}
+use Rattle.rules.specs.Value.{Held, Values, ChecksPart, HandsBack}
 use Rattle.rules.specs.Tidy.{respaced, Tidies}
 use Rattle.laws.specs.Demand3.{numberOf, isMemoryRefusal, isShort, heldBy}
 
--- the bytes of each lexeme that a call listed in two arrays
-abbrev pub bytesListed : List ℕ → (count : ℕ) (ks ws : List ℕ) → List (List ℕ)
-bytesListed text count ks ws = map (λ l. bytesAt text (l .at)) (take count (lexemesIn ks ws))
+-- Calls that were made: what they were lent, and any answer and any memory after them that meet their contract. The document id is the caller's, whatever it is.
+pub record LexingCall (text : List ℕ) (list stack : Lent) : Type 0 where
+  pub doc : ℕ
+  pub result : Lexed
+  pub list′ : Lent
+  pub stack′ : Lent
+  pub meets : Lexes doc text list stack result list′ stack′
 
--- a lexing call with memory enough, on an accepted text; its list, stack and result are ks, ws, sk, sw and r
-pub record Accounted (text ks ws sk sw : List ℕ) (r : Lexed) : Type 0 where
+pub record TidyingCall (text : List ℕ) (list stack : Lent) (out : List ℕ) : Type 0 where
+  pub doc : ℕ
+  pub result : Lexed
+  pub written : ℕ
+  pub list′ : Lent
+  pub stack′ : Lent
+  pub out′ : List ℕ
+  pub meets : Tidies doc text list stack out result written list′ stack′ out′
+
+-- the value of the string at a place of a list with so many lexemes, with a parts list, and an output from a position on
+pub record ValuingCall (text : List ℕ) (list : Arrays) (count place : ℕ) (parts : Arrays) (out : List ℕ) (at : ℕ) : Type 0 where
+  pub answer : Answer Held
+  pub listed : ℕ
+  pub parts′ : Arrays
+  pub out′ : List ℕ
+  pub meets : Values text list count place parts out at answer listed parts′ out′
+
+-- the check of a part, and the part handed back
+pub record HandingCall (text out : List ℕ) (part : Held) : Type 0 where
+  pub verdict : Verdict
+  pub bytes : List ℕ
+  pub checks : ChecksPart text out part verdict
+  pub hands : HandsBack text out part bytes
+
+-- the lexemes that a call listed, and the bytes of each
+abbrev pub listedBy : {text : List ℕ} {list stack : Lent} → LexingCall text list stack → List Lexeme
+listedBy c = take (c .result .lexemes) (contents (c .list′ .arrays))
+
+abbrev pub bytesListed : {text : List ℕ} {list stack : Lent} → LexingCall text list stack → List (List ℕ)
+bytesListed {text} c = map (λ l. bytesAt text (l .at)) (listedBy c)
+
+-- a lexing call with memory enough, on an accepted text, and its result
+pub record Accounted (text : List ℕ) (list stack : Lent) (r : Lexed) : Type 0 where
   pub accepts : r .verdict ≡ accepted
-  pub whole : joined ((traceIn (placesOf ks ws) (placesOf sk sw) text) .pieces) ≡ text
+  pub whole : joined ((traceIn (placesIn list) (placesIn stack) text) .taken) ≡ text
   pub bytes : length text ≡ r .kept + r .dropped
-  pub steps : r .steps ≡ r .lexemes + length (spacesOf ((traceIn (placesOf ks ws) (placesOf sk sw) text) .pieces))
+  pub steps : r .steps ≡ r .lexemes + length (spacesOf ((traceIn (placesIn list) (placesIn stack) text) .taken))
   pub stepsBytes : r .steps ≤ length text
   pub stepsLexemes : r .steps ≤ 2 * r .lexemes + 1
   pub deepest : 2 * r .deepest ≤ r .lexemes
 
 -- any lexing call on it
-pub record LexingCall (doc : ℕ) (text ks ws sk sw : List ℕ) (r : Lexed) (ks′ ws′ : List ℕ) : Type 0 where
-  pub exactly : isMemoryRefusal (r .verdict) ≡ isShort text (placesOf ks ws) (placesOf sk sw)
-  pub ample : isShort text (placesOf ks ws) (placesOf sk sw) ≡ false → Accounted text ks ws sk sw r
-  pub listed : take (r .lexemes) (lexemesIn ks′ ws′) ≡ listing doc (placesOf ks ws) (placesOf sk sw) text
+pub record OneCall {text : List ℕ} {list stack : Lent} (c : LexingCall text list stack) : Type 0 where
+  pub exactly : isMemoryRefusal (c .result .verdict) ≡ isShort text (placesIn list) (placesIn stack)
+  pub ample : isShort text (placesIn list) (placesIn stack) ≡ false → Accounted text list stack (c .result)
+  pub listed : listedBy c ≡ listing (c .doc) (placesIn list) (placesIn stack) text
 
 -- two lexing calls with equal lent memory: the same kinds, bytes of lexemes, or refusal number
-pub record SameLists (text text₂ : List ℕ) (r r₂ : Lexed) (ks ws ks₂ ws₂ : List ℕ) : Type 0 where
-  pub number : numberOf (r₂ .verdict) ≡ numberOf (r .verdict)
-  pub lexemes : r₂ .lexemes ≡ r .lexemes
-  pub kinds : ks₂ ≡ ks
-  pub bytes : bytesListed text₂ (r₂ .lexemes) ks₂ ws₂ ≡ bytesListed text (r .lexemes) ks ws
+pub record SameLists {text text₂ : List ℕ} {list stack : Lent} (c : LexingCall text list stack) (c₂ : LexingCall text₂ list stack) : Type 0 where
+  pub number : numberOf (c₂ .result .verdict) ≡ numberOf (c .result .verdict)
+  pub lexemes : c₂ .result .lexemes ≡ c .result .lexemes
+  pub kinds : c₂ .list′ .arrays .kinds ≡ c .list′ .arrays .kinds
+  pub bytes : bytesListed c₂ ≡ bytesListed c
 
 -- two calls of the tidy writer
-pub record SameTidied (r r₂ : Lexed) (n n₂ : ℕ) (out out₂ : List ℕ) : Type 0 where
-  pub number : numberOf (r₂ .verdict) ≡ numberOf (r .verdict)
-  pub written : n₂ ≡ n
-  pub output : out₂ ≡ out
+pub record SameTidied {text text₂ : List ℕ} {list stack : Lent} {out : List ℕ} (c : TidyingCall text list stack out) (c₂ : TidyingCall text₂ list stack out) : Type 0 where
+  pub number : numberOf (c₂ .result .verdict) ≡ numberOf (c .result .verdict)
+  pub written : c₂ .written ≡ c .written
+  pub output : c₂ .out′ ≡ c .out′
+
+-- the value of the string at a place, read from the list that lexing its text left
+abbrev pub ValueAfter : {text : List ℕ} {list stack : Lent} → LexingCall text list stack → (place : ℕ) (parts : Arrays) (out : List ℕ) (at : ℕ) → Type 0
+ValueAfter {text} c place parts out at = ValuingCall text (c .list′ .arrays) (c .result .lexemes) place parts out at
 
 -- two value calls: what they answer, the parts and the output after them
-pub record SameValues (a a₂ : Answer Where) (n n₂ : ℕ) (pks pks₂ out out₂ : List ℕ) : Type 0 where
-  pub number : numberOf a₂ ≡ numberOf a
-  pub held : heldBy a₂ ≡ heldBy a
-  pub parts : n₂ ≡ n
-  pub kinds : pks₂ ≡ pks
-  pub output : out₂ ≡ out
+pub record SameValues {text text₂ : List ℕ} {list list₂ : Arrays} {count count₂ place : ℕ} {parts : Arrays} {out : List ℕ} {at : ℕ} (v : ValuingCall text list count place parts out at) (v₂ : ValuingCall text₂ list₂ count₂ place parts out at) : Type 0 where
+  pub number : numberOf (v₂ .answer) ≡ numberOf (v .answer)
+  pub held : heldBy (v₂ .answer) ≡ heldBy (v .answer)
+  pub listed : v₂ .listed ≡ v .listed
+  pub kinds : v₂ .parts′ .kinds ≡ v .parts′ .kinds
+  pub output : v₂ .out′ ≡ v .out′
 
--- two texts whose calls cannot be told apart, for any ids, any lent memory and any position
+-- two parts handed back
+pub record SameHanded {text text₂ out out₂ : List ℕ} {part part₂ : Held} (h : HandingCall text out part) (h₂ : HandingCall text₂ out₂ part₂) : Type 0 where
+  pub number : numberOf (h₂ .verdict) ≡ numberOf (h .verdict)
+  pub bytes : h₂ .bytes ≡ h .bytes
+
+-- two texts whose calls cannot be told apart, given the same list, stack, parts list, output and position
 pub record SameCalls (text text₂ : List ℕ) : Type 0 where
-  pub lexing : (doc doc₂ : ℕ) (ks ws sk sw : List ℕ) (r r₂ : Lexed) (ks₁ ws₁ sk₁ sw₁ ks₂ ws₂ sk₂ sw₂ : List ℕ) →
-      Lexes doc text ks ws sk sw r ks₁ ws₁ sk₁ sw₁ → Lexes doc₂ text₂ ks ws sk sw r₂ ks₂ ws₂ sk₂ sw₂ →
-      SameLists text text₂ r r₂ ks₁ ws₁ ks₂ ws₂
-  pub tidying : (doc doc₂ : ℕ) (ks ws sk sw out : List ℕ) (r r₂ : Lexed) (n n₂ : ℕ) (ks₁ ws₁ sk₁ sw₁ out₁ ks₂ ws₂ sk₂ sw₂ out₂ : List ℕ) →
-      Tidies doc text ks ws sk sw out r n ks₁ ws₁ sk₁ sw₁ out₁ → Tidies doc₂ text₂ ks ws sk sw out r₂ n₂ ks₂ ws₂ sk₂ sw₂ out₂ →
-      SameTidied r r₂ n n₂ out₁ out₂
-  -- the value call reads the list that lexing its text left
-  pub values : (doc doc₂ : ℕ) (ks ws sk sw : List ℕ) (r r₂ : Lexed) (ks₁ ws₁ sk₁ sw₁ ks₂ ws₂ sk₂ sw₂ : List ℕ) →
-      Lexes doc text ks ws sk sw r ks₁ ws₁ sk₁ sw₁ → Lexes doc₂ text₂ ks ws sk sw r₂ ks₂ ws₂ sk₂ sw₂ →
-      (place : ℕ) (pks pws out : List ℕ) (at : ℕ) (a a₂ : Answer Where) (n n₂ : ℕ) (pks₁ pws₁ out₁ pks₂ pws₂ out₂ : List ℕ) →
-      Values text ks₁ ws₁ (r .lexemes) place pks pws out at a n pks₁ pws₁ out₁ → Values text₂ ks₂ ws₂ (r₂ .lexemes) place pks pws out at a₂ n₂ pks₂ pws₂ out₂ →
-      SameValues a a₂ n n₂ pks₁ pks₂ out₁ out₂
+  pub lexing : {list stack : Lent} (c : LexingCall text list stack) (c₂ : LexingCall text₂ list stack) → SameLists c c₂
+  pub tidying : {list stack : Lent} {out : List ℕ} (c : TidyingCall text list stack out) (c₂ : TidyingCall text₂ list stack out) → SameTidied c c₂
+  -- each reads the list that lexing its text left
+  pub values : {list stack : Lent} (c : LexingCall text list stack) (c₂ : LexingCall text₂ list stack) {place : ℕ} {parts : Arrays} {out : List ℕ} {at : ℕ}
+      (v : ValueAfter c place parts out at) (v₂ : ValueAfter c₂ place parts out at) → SameValues v v₂
   -- and what it answers is handed back from the text and the output after it
-  pub handing : (doc doc₂ : ℕ) (ks ws sk sw : List ℕ) (r r₂ : Lexed) (ks₁ ws₁ sk₁ sw₁ ks₂ ws₂ sk₂ sw₂ : List ℕ) →
-      Lexes doc text ks ws sk sw r ks₁ ws₁ sk₁ sw₁ → Lexes doc₂ text₂ ks ws sk sw r₂ ks₂ ws₂ sk₂ sw₂ →
-      (place : ℕ) (pks pws out : List ℕ) (at : ℕ) (p p₂ : Where) (n n₂ : ℕ) (pks₁ pws₁ out₁ pks₂ pws₂ out₂ : List ℕ) →
-      Values text ks₁ ws₁ (r .lexemes) place pks pws out at (given p) n pks₁ pws₁ out₁ → Values text₂ ks₂ ws₂ (r₂ .lexemes) place pks pws out at (given p₂) n₂ pks₂ pws₂ out₂ →
-      (v v₂ : Verdict) → ChecksPart text out₁ p v → ChecksPart text₂ out₂ p₂ v₂ →
-      (w w₂ : List ℕ) → HandsBack text out₁ p w → HandsBack text₂ out₂ p₂ w₂ →
-      (numberOf v₂ ≡ numberOf v) × (w₂ ≡ w)
+  pub handing : {list stack : Lent} (c : LexingCall text list stack) (c₂ : LexingCall text₂ list stack) {place : ℕ} {parts : Arrays} {out : List ℕ} {at : ℕ}
+      (v : ValueAfter c place parts out at) (v₂ : ValueAfter c₂ place parts out at) {part part₂ : Held} → v .answer ≡ given part → v₂ .answer ≡ given part₂ →
+      (h : HandingCall text (v .out′) part) (h₂ : HandingCall text₂ (v₂ .out′) part₂) → SameHanded h h₂
 
 -- every text that the rules accept
 pub record Demand3Calls (text : List ℕ) : Type 0 where
-  pub one : (doc : ℕ) (ks ws sk sw : List ℕ) (r : Lexed) (ks₁ ws₁ sk₁ sw₁ : List ℕ) → Lexes doc text ks ws sk sw r ks₁ ws₁ sk₁ sw₁ → LexingCall doc text ks ws sk sw r ks₁ ws₁
+  pub one : {list stack : Lent} (c : LexingCall text list stack) → OneCall c
   pub both : length (respaced text) ≤ limit → SameCalls text (respaced text)

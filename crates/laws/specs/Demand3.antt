@@ -7,10 +7,12 @@ use mathlib.Core.List.{List, [], _∷_, _++_, map}
 use lib.Dec.{leb, ltb, eqb}
 use lib.ListN.{length, take}
 use Rattle.rules.specs.Refusals.{StackFull, ListFull}
-use Rattle.rules.specs.Spans.{limit, bytesAt, Answer, given, refused, Verdict, accepted}
+use Rattle.rules.specs.Spans.{limit, bytesAt}
+use Rattle.rules.specs.Answers.{Answer, given, refused, Verdict, accepted}
 use Rattle.rules.specs.Kinds.{isSpace, isOpener}
-use Rattle.rules.specs.Lexing.{Piece, stopped, trace, accepts, depthAfter, traceIn, lexemesOf, spacesOf, joined, deepestFrom, Lexeme, placed, placesOf, kindsWith, wordsWith, listing, lexing}
-use Rattle.rules.specs.Value.{Where, inText, inOutput, ValueCall, valueCall, handedPart, orEmpty}
+use Rattle.rules.specs.Lent.{Lexeme, Arrays, Lent, placesIn, filled}
+use Rattle.rules.specs.Lexing.{Taken, stopped, trace, accepts, openAfterAll, traceIn, lexemesOf, spacesOf, joined, deepestFrom, placed, listing, lexing}
+use Rattle.rules.specs.Value.{Held, inText, inOutput, ValueCall, valueCall, handedPart, orEmpty}
 use Rattle.rules.specs.Tidy.{respaced, tidying}
 
 -- the number of a refusal, if there is one
@@ -23,29 +25,24 @@ isMemoryRefusal (given u) = false
 isMemoryRefusal (refused r) = eqb (r .number) StackFull || eqb (r .number) ListFull
 
 -- of the text itself, with ample memory
-abbrev pub lexemesIn : List ℕ → ℕ
-lexemesIn text = length (lexemesOf ((trace text) .pieces))
+abbrev pub lexemeCount : List ℕ → ℕ
+lexemeCount text = length (lexemesOf ((trace text) .taken))
 
 abbrev pub deepestIn : List ℕ → ℕ
-deepestIn text = deepestFrom 0 ((trace text) .pieces)
+deepestIn text = deepestFrom 0 ((trace text) .taken)
 
 -- "the stack has fewer places than the deepest nesting or the list fewer than lexemes"
 abbrev pub isShort : List ℕ → (places stack : ℕ) → Bool
-isShort text places stack = ltb stack (deepestIn text) || ltb places (lexemesIn text)
-
--- how many are open after some steps
-abbrev pub openAfterAll : ℕ → List Piece → ℕ
-openAfterAll depth [] = depth
-openAfterAll depth (p ∷ ps) = openAfterAll (depthAfter depth (p .kind)) ps
+isShort text places stack = ltb stack (deepestIn text) || ltb places (lexemeCount text)
 
 -- where memory is short: the steps before the one that is refused, that step, and which of 30 and 31 it is; by `listing` the list holds the lexemes of the steps before
 pub record StopsShort (text : List ℕ) (places stack : ℕ) : Type 0 where
-  pub before : List Piece
-  pub step : Piece
-  pub later : List Piece
+  pub before : List Taken
+  pub step : Taken
+  pub later : List Taken
   pub number : ℕ
-  pub steps : (trace text) .pieces ≡ before ++ (step ∷ later)
-  pub stops : traceIn places stack text ≡ record { pieces = before; end = stopped number 0 (length (step .bytes)) }
+  pub steps : (trace text) .taken ≡ before ++ (step ∷ later)
+  pub stops : traceIn places stack text ≡ record { taken = before; end = stopped number 0 (length (step .bytes)) }
   pub which : number ≡ cond (isOpener (step .kind) && leb stack (openAfterAll 0 before)) StackFull ListFull
   pub stackFull : number ≡ StackFull → (isOpener (step .kind) ≡ true) × (openAfterAll 0 before ≡ stack)
   pub listFull : number ≡ ListFull → (isSpace (step .kind) ≡ false) × (length (lexemesOf before) ≡ places)
@@ -58,9 +55,9 @@ pub record Memory (text : List ℕ) (doc places stack : ℕ) : Type 0 where
 
 -- "Otherwise lexemes and dropped spaces, joined in the order of their steps, are the text, and n = kept + dropped; the counted steps are lexemes + spaces, at most n and at most 2 × lexemes + 1; the counted deepest nesting, doubled, is at most lexemes."
 pub record Account (text : List ℕ) (doc places stack : ℕ) : Type 0 where
-  pub whole : joined ((traceIn places stack text) .pieces) ≡ text
+  pub whole : joined ((traceIn places stack text) .taken) ≡ text
   pub bytes : length text ≡ lexing doc places stack text .kept + lexing doc places stack text .dropped
-  pub steps : lexing doc places stack text .steps ≡ lexing doc places stack text .lexemes + length (spacesOf ((traceIn places stack text) .pieces))
+  pub steps : lexing doc places stack text .steps ≡ lexing doc places stack text .lexemes + length (spacesOf ((traceIn places stack text) .taken))
   pub stepsBytes : lexing doc places stack text .steps ≤ length text
   pub stepsLexemes : lexing doc places stack text .steps ≤ 2 * lexing doc places stack text .lexemes + 1
   pub deepest : 2 * lexing doc places stack text .deepest ≤ lexing doc places stack text .lexemes
@@ -82,23 +79,23 @@ pub record SameTidying (doc doc′ places stack : ℕ) (text text′ out : List 
   pub output : tidying doc′ places stack text′ out .output ≡ tidying doc places stack text out .output
   pub number : numberOf (tidying doc′ places stack text′ out .lexed .verdict) ≡ numberOf (tidying doc places stack text out .lexed .verdict)
 
--- the value call on a text's own list, which lexing left in the two arrays ks and ws
-abbrev pub valueOn : (doc stack : ℕ) (text ks ws : List ℕ) (place : ℕ) (pks pws out : List ℕ) (at : ℕ) → ValueCall
-valueOn doc stack text ks ws place pks pws out at =
-    let ls = listing doc (placesOf ks ws) stack text in
-    valueCall text (kindsWith ls ks) (wordsWith ls ws) (length ls) place pks pws out at
+-- the value call on a text's own list, as lexing left it
+abbrev pub valueOn : (doc stack : ℕ) (text : List ℕ) (list : Lent) (place : ℕ) (parts : Arrays) (out : List ℕ) (at : ℕ) → ValueCall
+valueOn doc stack text list place parts out at =
+    let ls = listing doc (placesIn list) stack text in
+    valueCall text (filled ls list .arrays) (length ls) place parts out at
 
 -- handing back what it answers, from the text and the output after it
-abbrev pub handedBack : (text out : List ℕ) → Answer Where → Answer (List ℕ)
+abbrev pub handedBack : (text out : List ℕ) → Answer Held → Answer (List ℕ)
 handedBack text out (given p) = handedPart text out p
 handedBack text out (refused r) = refused r
 
 -- whether text or output holds it
-abbrev pub isOutput : Where → Bool
+abbrev pub isOutput : Held → Bool
 isOutput (inText a e) = false
 isOutput (inOutput a e) = true
 
-abbrev pub heldBy : Answer Where → Option Bool
+abbrev pub heldBy : Answer Held → Option Bool
 heldBy (given p) = some (isOutput p)
 heldBy (refused r) = none
 
@@ -108,22 +105,22 @@ pub record SameValue (text text′ : List ℕ) (v v′ : ValueCall) : Type 0 whe
   pub held : heldBy (v′ .answer) ≡ heldBy (v .answer)
   pub output : v′ .output ≡ v .output
   pub parts : v′ .parts ≡ v .parts
-  pub kinds : v′ .kinds ≡ v .kinds
+  pub kinds : v′ .arrays .kinds ≡ v .arrays .kinds
   pub handedNumber : numberOf (handedBack text′ (v′ .output) (v′ .answer)) ≡ numberOf (handedBack text (v .output) (v .answer))
   pub handedBytes : orEmpty (handedBack text′ (v′ .output) (v′ .answer)) ≡ orEmpty (handedBack text (v .output) (v .answer))
 
 -- "given equal lent memory and position, lexing, tidying and reading each string's value give on both texts .. the same"; the two calls may carry two document ids
-pub record Alike (text text′ : List ℕ) : Type 0 where
+pub record SameAnswers (text text′ : List ℕ) : Type 0 where
   pub lexing : (doc doc′ places stack : ℕ) → SameLexing doc doc′ places stack text text′
   pub tidying : (doc doc′ places stack : ℕ) (out : List ℕ) → SameTidying doc doc′ places stack text text′ out
-  pub values : (doc doc′ stack : ℕ) (ks ws : List ℕ) (place : ℕ) (pks pws out : List ℕ) (at : ℕ) → SameValue text text′ (valueOn doc stack text ks ws place pks pws out at) (valueOn doc′ stack text′ ks ws place pks pws out at)
+  pub values : (doc doc′ stack : ℕ) (list : Lent) (place : ℕ) (parts : Arrays) (out : List ℕ) (at : ℕ) → SameValue text text′ (valueOn doc stack text list place parts out at) (valueOn doc′ stack text′ list place parts out at)
 
 -- "For every text of n bytes, within that limit, that those rules accept"
 pub record Demand3 (text : List ℕ) : Type 0 where
   pub memory : (doc places stack : ℕ) → Memory text doc places stack
   pub account : (doc places stack : ℕ) → isShort text places stack ≡ false → Account text doc places stack
   pub respaces : length (respaced text) ≤ limit → Respaces text
-  pub alike : length (respaced text) ≤ limit → Alike text (respaced text)
+  pub sameAnswers : length (respaced text) ≤ limit → SameAnswers text (respaced text)
 
 -- Beside it, of any text, refused ones included: no byte is passed over and none is read twice.
 -- spans that follow one another from a position on, without a gap and without an overlap
@@ -133,6 +130,6 @@ Consecutive doc at (l ∷ ls) = (l .at .doc ≡ doc) × (l .at .start ≡ at) ×
 
 -- the steps' spans are consecutive, each has the bytes that the text has there, and together they are the text up to the end or the refusal; what is listed are those steps that are no Space, each once and in their order (by the definition of `listing`)
 pub record InOrder (text : List ℕ) (doc places stack : ℕ) : Type 0 where
-  pub consecutive : Consecutive doc 0 (placed doc 0 ((traceIn places stack text) .pieces))
-  pub bytes : map (λ l. bytesAt text (l .at)) (placed doc 0 ((traceIn places stack text) .pieces)) ≡ map (λ p. p .bytes) ((traceIn places stack text) .pieces)
-  pub front : joined ((traceIn places stack text) .pieces) ≡ take (length (joined ((traceIn places stack text) .pieces))) text
+  pub consecutive : Consecutive doc 0 (placed doc 0 ((traceIn places stack text) .taken))
+  pub bytes : map (λ l. bytesAt text (l .at)) (placed doc 0 ((traceIn places stack text) .taken)) ≡ map (λ p. p .bytes) ((traceIn places stack text) .taken)
+  pub front : joined ((traceIn places stack text) .taken) ≡ take (length (joined ((traceIn places stack text) .taken))) text

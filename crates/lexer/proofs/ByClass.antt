@@ -1,19 +1,19 @@
--- The rules' order, by the class of the first byte: each class leaves what `ByClass` of specs/ says.
-use Prim.Native.Nat.{ℕ, suc, _+_, _≤_}
+-- The rules' order, by the class of the first byte: each class leaves what a sub-lexer answers.
+use Prim.Native.Nat.{ℕ, suc, _≤_}
 use Prim.Native.Char.{Char, code}
-use native.Mathlib.Nat.{add-zero, zero-add, add-assoc}
 use native.Mathlib.Omega.{arith}
 use mathlib.Core.Path.{_≡_, refl, sym, _∙_}
 use mathlib.Core.List.{List, [], _∷_}
-use mathlib.Core.Bool.{Bool, true, false, cond, _&&_, _||_, and-true, and-false, true≢false, false≢true}
+use mathlib.Core.Bool.{Bool, true, false, cond, _&&_, _||_, and-true, true≢false}
 use lib.Dec.{T, leb, ltb, eqb, leb→le, eqb→eq, eqb-refl}
 use lib.ListN.{drop}
 use Rattle.rules.specs.Text.{is, begins, run}
-use Rattle.rules.specs.Bytes.{isWhitespace, isControl, isDigit, isLetter, isPunctuation, isOver127, classOf, Whitespace, Control, Digit, Letter, Punctuation, Over127}
+use Rattle.rules.specs.Bytes.{isWhitespace, isControl, isDigit, isLetter, isPunctuation, isOver127, isIdentifierByte, classOf, Whitespace, Control, Digit, Letter, Punctuation, Over127}
 use Rattle.rules.specs.Refusals.{ControlByte, NotAscii}
-use Rattle.rules.specs.Kinds.{isFormat, isTriple, QuoteClose, HoleOpen, StringInner}
-use Rattle.rules.specs.Step.{Step, found, stop, intLength, exponent, fraction, decimal, number, whitespace, outside, inside, isInner, closesQuote}
-use Rattle.lexer.specs.ByClass.{lettered, punctuated, escaped, fractionAlone}
+use Rattle.rules.specs.Kinds.{FormatDouble, FormatTriple}
+use Rattle.rules.specs.Step.{Step, found, stop, number, identifier, identifierLength, whitespace, outside}
+use Rattle.sublexers.specs.Words.{identifierBy}
+use Rattle.sublexers.specs.ByClass.{letteredBy, punctuated}
 
 -- Tests, by their value
 decide : {P : Type 0} (t : Bool) → (t ≡ true → P) → (t ≡ false → P) → P
@@ -23,10 +23,6 @@ decide false f g = g refl
 or-cases : {P : Type 0} (a b : Bool) → (a ≡ true → P) → (b ≡ true → P) → a || b ≡ true → P
 or-cases true b f g e = f refl
 or-cases false b f g e = g e
-
-cond-same : (t x : Bool) → cond t x x ≡ x
-cond-same true x = refl
-cond-same false x = refl
 
 true-of : (t : Bool) → T t → t ≡ true
 true-of true h = refl
@@ -133,15 +129,26 @@ at-digit i b s e =
     let m = unmarked b Digit refl e in
     rw (m .hash, m .slash, m .quote, m .brace, not-f b Digit refl e, d)
 
-pub at-letter : (i b : ℕ) (s : List ℕ) → classOf b ≡ Letter → outside i (b ∷ s) ≡ lettered (b ∷ s)
-unfolding classOf outside lettered
+-- three quotes are one and two more
+three-quotes : (s : List ℕ) → begins "\"\"\"" s ≡ (begins "\"" s && begins "\"\"" (drop 1 s))
+three-quotes [] = refl
+three-quotes (b ∷ s) = rw and-true refl
+
+by-quotes : (f q t : Bool) (r : Step) → cond (f && (q && t)) (found FormatTriple 4) (cond (f && q) (found FormatDouble 2) r) ≡ cond (f && q) (cond t (found FormatTriple 4) (found FormatDouble 2)) r
+by-quotes true true true r = refl
+by-quotes true true false r = refl
+by-quotes true false t r = refl
+by-quotes false q t r = refl
+
+pub at-letter : (i b : ℕ) (s : List ℕ) → classOf b ≡ Letter → outside i (b ∷ s) ≡ letteredBy isIdentifierByte b s (b ∷ s)
+unfolding classOf outside letteredBy identifierBy identifier identifierLength
 at-letter i b s e =
     let w = past (isWhitespace b) 0 _ Letter refl e in
     let c = past (isControl b) 1 _ Letter refl (w .1) in
     let d = past (isDigit b) 2 _ Letter refl (c .1) in
     let l = taken (isLetter b) 3 _ (search more) (d .1) in
     let m = unmarked b Letter refl e in
-    rw (m .hash, m .slash, m .quote, m .brace, d .0, l)
+    rw (m .hash, m .slash, m .quote, m .brace, d .0, l, three-quotes s) (by-quotes (is "f" b) (begins "\"" s) (begins "\"\"" (drop 1 s)) _)
 
 pub at-punctuation : (i b : ℕ) (s : List ℕ) → classOf b ≡ Punctuation → outside i (b ∷ s) ≡ punctuated i (b ∷ s)
 unfolding classOf outside punctuated
@@ -173,60 +180,3 @@ six b P w c d l p o =
     decide (isDigit b) (λ g. d (rw (e, f, g))) (λ g.
     decide (isLetter b) (λ h. l (rw (e, f, g, h))) (λ h.
     decide (isPunctuation b) (λ j. p (rw (e, f, g, h, j))) (λ j. o (rw (e, f, g, h, j)))))))
-
--- In a string: at `\`, at a quote, at any other byte
-pub in-escape : (quote : ℕ) (s : List ℕ) → begins "\\" s ≡ true → inside quote s ≡ escaped s
-unfolding inside escaped
-in-escape quote s e = rw e
-
-one-more : (n : ℕ) → 1 + n ≡ suc n
-one-more n = omega arith
-
-pub in-quote : (quote : ℕ) (s : List ℕ) → begins "\"" s ≡ true → inside quote s ≡ cond (isTriple quote) (cond (begins "\"\"\"" s) (found QuoteClose 3) (found StringInner (1 + run (isInner quote) (drop 1 s)))) (found QuoteClose 1)
-unfolding inside closesQuote
-in-quote quote [] e = absurd (false≢true e)
-in-quote quote (b ∷ s) e =
-    rw (is-of "\"" b (rw and-true at e), one-more)
-    (decide (isTriple quote) (λ t. rw (t, and-false)) (λ t. rw t))
-
-pub in-other : (quote : ℕ) (s : List ℕ) → begins "\\" s ≡ false → begins "\"" s ≡ false → inside quote s ≡ cond (isFormat quote && begins "{" s) (found HoleOpen 1) (found StringInner (1 + run (isInner quote) (drop 1 s)))
-unfolding inside closesQuote
-in-other quote [] e f = rw cond-same
-in-other quote (b ∷ s) e f =
-    let t : is "\\" b ≡ false = rw and-true at e in
-    let u : is "\"" b ≡ false = rw and-true at f in
-    rw (t, u, one-more, cond-same)
-
--- Decimals in three parts, each counted from where it stands
-abbrev pub moved : ℕ → Step → Step
-moved n (found k m) = found k (n + m)
-moved n (stop number from m) = stop number (n + from) m
-
-moved-cond : (n : ℕ) (t : Bool) (x y : Step) → moved n (cond t x y) ≡ cond t (moved n x) (moved n y)
-moved-cond n true x y = refl
-moved-cond n false x y = refl
-
-moved-moved : (n m : ℕ) (r : Step) → moved n (moved m r) ≡ moved (n + m) r
-moved-moved n m (found k l) = simp add-assoc
-moved-moved n m (stop number from l) = simp add-assoc
-
-pub exponent-moved : (n : ℕ) (s : List ℕ) → exponent n s ≡ moved n (exponent 0 s)
-unfolding exponent
-exponent-moved n s = simp (moved-cond, add-zero, zero-add, add-assoc)
-
--- an exponent after a fraction that was found, so many bytes long; a fraction's refusal stays
-abbrev pub thenExponent : List ℕ → Step → Step
-thenExponent s (found k m) = moved m (exponent 0 (drop m s))
-thenExponent s (stop number from m) = stop number from m
-
-then-cond : (s : List ℕ) (t : Bool) (x y : Step) → thenExponent s (cond t x y) ≡ cond t (thenExponent s x) (thenExponent s y)
-then-cond s true x y = refl
-then-cond s false x y = refl
-
-fraction-parts : (n : ℕ) (s : List ℕ) → fraction n s ≡ moved n (thenExponent s (fractionAlone s))
-unfolding fraction fractionAlone
-fraction-parts n s = simp (then-cond, moved-cond, moved-moved, one-more, add-zero) (simp (← exponent-moved))
-
-pub decimal-parts : (s : List ℕ) → decimal s ≡ moved (intLength s) (thenExponent (drop (intLength s) s) (fractionAlone (drop (intLength s) s)))
-unfolding decimal
-decimal-parts s = fraction-parts (intLength s) (drop (intLength s) s)

@@ -1,17 +1,16 @@
--- the step by the class of the first byte; the modules' own laws
+-- the step by the class of the first byte
 pub mod ByClass
-pub mod Identifier
-pub mod Numbers
-pub mod Punctuation
-pub mod Quoted
 pub mod Steps
 pub mod Opening
 -- the loop
 pub mod Parts
 pub mod Standing
 pub mod Loop
+pub mod Going
 pub mod Running
 pub mod Lone
+pub mod Whole
 -- a single step
 pub mod Openers
+pub mod Single
 pub mod Walking

@@ -11,10 +11,10 @@ use Rattle.rules.specs.Step.{step}
 use Rattle.scan.specs.Reach.{MeasuredAs}
 use Rattle.scan.proofs.Reach.{alone-if, alone-measured}
 use Rattle.token.specs.declared.Opened.{Opened}
-use Rattle.lexer.specs.Outcome.{lexemeTo, outcome, innermostOf}
-use Rattle.lexer.specs.Quotes.{modeOf}
+use Rattle.sublexers.specs.Outcome.{lexemeTo, outcome, innermostOf}
+use Rattle.lexer.specs.Mode.{modeOf}
 use Rattle.lexer.specs.Running.{LoneIf}
-use Rattle.lexer.proofs.Numbers.{whitespace-at}
+use Rattle.sublexers.proofs.Numbers.{whitespace-at}
 use Rattle.lexer.proofs.Steps.{step-outside, here-whitespace}
 
 space-class : (b : ℕ) → b ≡ 32 → classOf b ≡ Whitespace

@@ -9,28 +9,30 @@ use lib.Dec.{leb, ltb, eqb}
 use lib.ListN.{length, drop, getD, length-drop}
 use borrow.Author.Tests.{eqb-true, eqb-false, lt-leb, ltb-true, ltb-false}
 use native.Mathlib.Nat.{add-zero, zero-add}
-use Rattle.rules.specs.Spans.{span, low, high, limit, accepted, refused}
 use Rattle.rules.specs.Utf8.{firstBad}
 use Rattle.rules.specs.Refusals.{NotUtf8, TooLong, AnotherDue, UnclosedBracket, UnclosedHole, UnclosedString, UnclosedFormat, StackFull, ListFull}
+use Rattle.rules.specs.Spans.{span, low, high, limit}
+use Rattle.rules.specs.Answers.{accepted, refused}
 use Rattle.rules.specs.Kinds.{HoleOpen, Nothing, between, isSpace, isQuoteOpen, isFormat, isOpener}
 use Rattle.rules.specs.Step.{Step as StepRule, found, stop, step}
-use Rattle.rules.specs.Lexing.{End, stopped, ends, innermost, unclosed, atEnd, Lexeme, noteOf, verdictOf, Lexed as LexedRule, lexedOf, traceIn, placesOf, listing, lexing, Lexes}
+use Rattle.rules.specs.Lent.{Lexeme, placesOf, lent}
+use Rattle.rules.specs.Lexing.{End, stopped, ends, innermost, unclosed, atEnd, noteOf, verdictOf, Lexed as LexedRule, lexedOf, traceIn, listing, lexing, Lexes}
+use Rattle.rules.proofs.Listed.{same-lent}
 use Rattle.rules.proofs.Bounds.{found-inside, stop-inside, stop-number}
 use Rattle.rules.proofs.Rfc3629.{first-bad}
 use Rattle.rules.proofs.Text.{decide}
 use Rattle.rules.proofs.Trace.{trace-long, trace-bad, within-ends}
-use Rattle.token.specs.Codes.{codeOf, stateMeant, ifOpener}
+use Rattle.token.specs.Codes.{stateMeant}
 use Rattle.token.specs.declared.Opened.{Opened}
 use Rattle.token.specs.declared.Opened.the-variants.{State as OpenedState, NoOpener}
 use Rattle.lexer.specs.declared.Cursor.{Cursor}
-use Rattle.lexer.specs.declared.Fault.{Fault}
+use Rattle.sublexers.specs.declared.Fault.{Fault}
 use Rattle.lexer.specs.declared.Lexed.{Lexed}
-use Rattle.lexer.specs.declared.Match.{Match}
-use Rattle.lexer.specs.declared.Step.{Step}
-use Rattle.lexer.specs.declared.Step.the-variants.{Found, Refused}
-use Rattle.lexer.specs.Cursor.{start, advanceOf, fullOf}
-use Rattle.lexer.specs.Memory.{topOf}
-use Rattle.lexer.specs.Outcome.{lexemeTo, refusedAt, miscoded, outcome, stepMeant, innermostOf}
+use Rattle.sublexers.specs.declared.Step.{Step}
+use Rattle.sublexers.specs.declared.Step.the-variants.{Refused}
+use Rattle.lexer.specs.Cursor.{start, advanceOf, noRoomOf}
+use Rattle.lexer.specs.Going.{innermostIn}
+use Rattle.sublexers.specs.Outcome.{lexemeTo, refusedAt, outcome, stepMeant, innermostOf}
 use Rattle.lexer.specs.Results.{lexedMeant, countedAt, noteAt, refusedWith, verdictAt, CanReport, CanStop, CanFinish}
 use Rattle.lexer.proofs.Standing.{Standing, opened, codes, kindsAfter, wordsAfter, stackKindsAfter, stackWordsAfter, bounds, standing-on, top-code, top-none, top-opener, note-some, note-none, note-other, answer, listed, standing-end, standing-stop, standing-full}
 
@@ -50,29 +52,15 @@ pub outcome-stop : (at a b e : ℕ) (r : StepRule) → refusedAt a b e ≡ outco
 outcome-stop at a b e (found j n) q = let z : _≡_ {A = ℕ} 0 1 = cc in absurd (omega arith)
 outcome-stop at a b e (stop x f m) q = record { from = f; size = m; is = cc; starts = cc; ends = cc }
 
--- a step that was refused, and a lexeme that was found with its token's code
+-- a step that was refused
 pub fault-means : (answer : Step) (f : Fault) → answer ≡ Refused f → refusedAt (f .number) (f .start) (f .end) ≡ stepMeant answer
 fault-means answer f a = rw a
-
-pub found-means : (at : ℕ) (r : StepRule) (answer : Step) (m : Match) → answer ≡ Found m → stepMeant answer ≡ outcome at r → (m .kind ≡ codeOf (m .token)) × (lexemeTo (m .kind) (m .end) ≡ outcome at r)
-found-means at r answer m a o = decide (eqb (m .kind) (codeOf (m .token)))
-    (λ e. (eqb-true (m .kind) (codeOf (m .token)) e, rw (a, e) at o))
-    (λ e. absurd (not-miscoded r (rw (a, e) at o)))
-  where
-    not-miscoded : (r : StepRule) → miscoded ≡ outcome at r → ⊥
-    not-miscoded (found k n) q = let z : _≡_ {A = ℕ} 0 1 = cc in absurd (omega arith)
-    not-miscoded (stop j f n) q = let z : _≡_ {A = ℕ} 0 1 = cc in absurd (omega arith)
 
 -- what the innermost opener's state says of its code
 pub no-state : (top : Opened) → stateMeant top ≡ none → innermostOf top ≡ Nothing
 unfolding stateMeant
 no-state (OpenedState s) e = let z : _≡_ {A = ℕ} 0 1 = cc in absurd (omega arith)
 no-state NoOpener e = refl
-
-some-state : (top : Opened) (k : ℕ) → stateMeant top ≡ some k → innermostOf top ≡ k
-unfolding stateMeant
-some-state (OpenedState s) k e = cc
-some-state NoOpener k e = let z : _≡_ {A = ℕ} 0 1 = cc in absurd (omega arith)
 
 -- the verdict at the text's end, by what is open
 at-end-none : (doc at : ℕ) (os : List Lexeme) → length os ≡ 0 → verdictOf doc at os (atEnd (map (λ l. l .kind) os)) ≡ accepted
@@ -107,8 +95,8 @@ below-25 n h = decide (eqb n 24)
     lt-leb-false m n h = lt-leb m n h
 
 -- a refusal for want of room has no note
-full-unnoted : (stack places : ℕ) (c : Cursor) (k number : ℕ) → number ≡ fullOf stack places c k → between AnotherDue UnclosedFormat number ≡ eqb number AnotherDue
-unfolding fullOf
+full-unnoted : (stack places : ℕ) (c : Cursor) (k number : ℕ) → number ≡ noRoomOf stack places c k → between AnotherDue UnclosedFormat number ≡ eqb number AnotherDue
+unfolding noRoomOf
 full-unnoted stack places c k number e = rw e (pick (isOpener k && leb stack (c .depth)) (not (isSpace k) && leb places (c .lexemes)))
   where
     pick : (a b : Bool) → between AnotherDue UnclosedFormat (cond a StackFull (cond b ListFull 0)) ≡ eqb (cond a StackFull (cond b ListFull 0)) AnotherDue
@@ -124,28 +112,23 @@ pub record Wrote (doc : ℕ) (c : Cursor) (kind end : ℕ) (ks ws sk sw ks′ ws
   pub stackWords : sw′ ≡ stackWordsAfter c kind (low (span doc (c .at) end)) (high (span doc (c .at) end)) sw
 
 module _ {doc : ℕ} {text ks₀ ws₀ sk₀ sw₀ ks ws sk sw : List ℕ} {c : Cursor} (s : Standing doc text ks₀ ws₀ sk₀ sw₀ ks ws sk sw c) where
-  -- the state that the stack gives is the innermost opener's
-  pub top-innermost : (top : Opened) → topOf (c .depth) sk top → innermostOf top ≡ innermost (codes doc (s .past))
-  unfolding ifOpener
-  top-innermost top t = decide (eqb (c .depth) 0)
-      (λ z. no-state top (t ∙ rw z) ∙ sym (top-none s (eqb-true (c .depth) 0 z)))
+  -- the innermost code of the stack is that of the steps behind
+  pub standing-innermost : innermostIn (c .depth) sk ≡ innermost (codes doc (s .past))
+  standing-innermost = decide (eqb (c .depth) 0)
+      (λ z. rw z (sym (top-none s (eqb-true (c .depth) 0 z))))
       (λ z.
       let deep : 0 < c .depth = omega (arith, eqb-false (c .depth) 0 z) in
-      some-state top (getD sk (c .depth - 1) 0) (t ∙ rw (z, top-opener s deep)) ∙ top-code s deep)
+      rw (z, top-opener s deep) (top-code s deep))
 
   -- a way out: the trace ends here, and the result says so
-  pub way-out : (e : End) (r : Lexed) → traceIn (placesOf ks₀ ws₀) (placesOf sk₀ sw₀) text ≡ record { pieces = s .past; end = e } →
-      lexedMeant r ≡ countedAt (verdictOf doc (c .at) (opened doc (s .past)) e) c → Lexes doc text ks₀ ws₀ sk₀ sw₀ (lexedMeant r) ks ws sk sw
+  pub way-out : (e : End) (r : Lexed) → traceIn (placesOf ks₀ ws₀) (placesOf sk₀ sw₀) text ≡ record { taken = s .past; end = e } →
+      lexedMeant r ≡ countedAt (verdictOf doc (c .at) (opened doc (s .past)) e) c → Lexes doc text (lent ks₀ ws₀) (lent sk₀ sw₀) (lexedMeant r) (lent ks ws) (lent sk sw)
   way-out e r q v =
       let d : r .deepest ≡ c .deepest = ap (λ (l : LexedRule). l .deepest) v in
       record {
         result = v ∙ sym (answer s e q);
-        kinds = rw (listed s e q) (s .kinds);
-        words = rw (listed s e q) (s .words);
-        stackKinds = rw d (s .stackKinds);
-        stackWords = rw d (s .stackWords);
-        stackKindsLength = s .stackKindsLength;
-        stackWordsLength = s .stackWordsLength;
+        listed = same-lent (rw (listed s e q) (s .kinds)) (rw (listed s e q) (s .words));
+        stacked = record { kinds = rw d (s .stackKinds); words = rw d (s .stackWords); kindsLength = s .stackKindsLength; wordsLength = s .stackWordsLength };
       }
 
   -- the note that the code gives is the rules'
@@ -172,7 +155,7 @@ module _ {doc : ℕ} {text ks₀ ws₀ sk₀ sw₀ ks ws sk sw : List ℕ} {c : 
   can-stop f b = record { start = b .0; end = b .1; stack = can-finish .stackWords; counts = can-report }
 
   -- the text has ended
-  pub end-out : (r : Lexed) → length text ≤ c .at → lexedMeant r ≡ verdictAt doc c sk sw → Lexes doc text ks₀ ws₀ sk₀ sw₀ (lexedMeant r) ks ws sk sw
+  pub end-out : (r : Lexed) → length text ≤ c .at → lexedMeant r ≡ verdictAt doc c sk sw → Lexes doc text (lent ks₀ ws₀) (lent sk₀ sw₀) (lexedMeant r) (lent ks ws) (lent sk sw)
   end-out r h v = way-out (atEnd (codes doc (s .past))) r (standing-end s h) (v ∙ at-end)
     where
       at-end : verdictAt doc c sk sw ≡ countedAt (verdictOf doc (c .at) (opened doc (s .past)) (atEnd (codes doc (s .past)))) c
@@ -183,20 +166,20 @@ module _ {doc : ℕ} {text ks₀ ws₀ sk₀ sw₀ ks ws sk sw : List ℕ} {c : 
           rw (z, at-end-some doc (c .at) (opened doc (s .past)) (omega (arith, s .counted .depth)), ← (top-code s deep), note-some s (unclosed (getD sk (c .depth - 1) 0)) deep (unclosed-noted (getD sk (c .depth - 1) 0))))
 
   module _ (h : c .at < length text) where
-    stop-here : (top : Opened) (f : Fault) → topOf (c .depth) sk top →
-        refusedAt (f .number) (f .start) (f .end) ≡ outcome (c .at) (step (innermostOf top) (drop (c .at) text)) →
+    stop-here : (f : Fault) →
+        refusedAt (f .number) (f .start) (f .end) ≡ outcome (c .at) (step (innermostIn (c .depth) sk) (drop (c .at) text)) →
         Stop (c .at) (step (innermost (codes doc (s .past))) (drop (c .at) text)) (f .number) (f .start) (f .end)
-    stop-here top f t o = outcome-stop (c .at) (f .number) (f .start) (f .end) (step (innermost (codes doc (s .past))) (drop (c .at) text)) (rw (top-innermost top t) at o)
+    stop-here f o = outcome-stop (c .at) (f .number) (f .start) (f .end) (step (innermost (codes doc (s .past))) (drop (c .at) text)) (rw standing-innermost at o)
 
     left : 0 < length (drop (c .at) text)
     left = omega (arith, length-drop (c .at) text)
 
     -- the text refuses the step
-    pub stop-out : (top : Opened) (f : Fault) (r : Lexed) → topOf (c .depth) sk top →
-        refusedAt (f .number) (f .start) (f .end) ≡ outcome (c .at) (step (innermostOf top) (drop (c .at) text)) →
-        lexedMeant r ≡ refusedWith doc f c (noteAt (f .number) (c .depth) sw) → Lexes doc text ks₀ ws₀ sk₀ sw₀ (lexedMeant r) ks ws sk sw
-    stop-out top f r t o v =
-        let x : Stop (c .at) (step (innermost (codes doc (s .past))) (drop (c .at) text)) (f .number) (f .start) (f .end) = stop-here top f t o in
+    pub stop-out : (f : Fault) (r : Lexed) →
+        refusedAt (f .number) (f .start) (f .end) ≡ outcome (c .at) (step (innermostIn (c .depth) sk) (drop (c .at) text)) →
+        lexedMeant r ≡ refusedWith doc f c (noteAt (f .number) (c .depth) sw) → Lexes doc text (lent ks₀ ws₀) (lent sk₀ sw₀) (lexedMeant r) (lent ks ws) (lent sk sw)
+    stop-out f r o v =
+        let x : Stop (c .at) (step (innermost (codes doc (s .past))) (drop (c .at) text)) (f .number) (f .start) (f .end) = stop-here f o in
         let n : (10 ≤ f .number) × (f .number ≤ 24) = stop-number (innermost (codes doc (s .past))) (drop (c .at) text) (f .number) (x .from) (x .size) (x .is) in
         way-out (stopped (f .number) (x .from) (x .size)) r (standing-stop s h (f .number) (x .from) (x .size) (x .is)) (v ∙ same x (note-agrees (f .number) (below-25 (f .number) (n .1))))
       where
@@ -206,11 +189,11 @@ module _ {doc : ℕ} {text ks₀ ws₀ sk₀ sw₀ ks ws sk sw : List ℕ} {c : 
         same x e = unfold verdictOf in rw (e, x .starts, x .ends)
 
     -- the fault's offsets are within the limit
-    pub stop-small : (top : Opened) (f : Fault) → topOf (c .depth) sk top →
-        refusedAt (f .number) (f .start) (f .end) ≡ outcome (c .at) (step (innermostOf top) (drop (c .at) text)) →
+    pub stop-small : (f : Fault) →
+        refusedAt (f .number) (f .start) (f .end) ≡ outcome (c .at) (step (innermostIn (c .depth) sk) (drop (c .at) text)) →
         (f .start < 2 ^ 48) × (f .end < 2 ^ 48)
-    stop-small top f t o =
-        let x : Stop (c .at) (step (innermost (codes doc (s .past))) (drop (c .at) text)) (f .number) (f .start) (f .end) = stop-here top f t o in
+    stop-small f o =
+        let x : Stop (c .at) (step (innermost (codes doc (s .past))) (drop (c .at) text)) (f .number) (f .start) (f .end) = stop-here f o in
         let i : x .from + x .size ≤ length (drop (c .at) text) = stop-inside (innermost (codes doc (s .past))) (drop (c .at) text) (f .number) (x .from) (x .size) left (x .is) in
         let small : length text < 2 ^ 48 = s .small in
         let a : f .start ≡ c .at + x .from = x .starts in
@@ -226,10 +209,10 @@ module _ {doc : ℕ} {text ks₀ ws₀ sk₀ sw₀ ks ws sk sw : List ℕ} {c : 
       pub fits : c .at + size ≤ length text
       pub ends : e ≡ c .at + size
 
-    pub took : (top : Opened) (k e : ℕ) → topOf (c .depth) sk top → lexemeTo k e ≡ outcome (c .at) (step (innermostOf top) (drop (c .at) text)) → Took k e
-    took top k e t o =
+    pub took : (k e : ℕ) → lexemeTo k e ≡ outcome (c .at) (step (innermostIn (c .depth) sk) (drop (c .at) text)) → Took k e
+    took k e o =
         let x : (n : ℕ) × (step (innermost (codes doc (s .past))) (drop (c .at) text) ≡ found k n) × (e ≡ c .at + n) =
-        outcome-found (c .at) k e (step (innermost (codes doc (s .past))) (drop (c .at) text)) (rw (top-innermost top t) at o) in
+        outcome-found (c .at) k e (step (innermost (codes doc (s .past))) (drop (c .at) text)) (rw standing-innermost at o) in
         let i : (0 < x .0) × (x .0 ≤ length (drop (c .at) text)) = found-inside (innermost (codes doc (s .past))) (drop (c .at) text) k (x .0) left (x .1) in
         let l : length (drop (c .at) text) ≡ length text - c .at = length-drop (c .at) text in
         record { size = x .0; is = x .1; moves = i .0; fits = omega arith; ends = x .2 }
@@ -238,8 +221,8 @@ module _ {doc : ℕ} {text ks₀ ws₀ sk₀ sw₀ ks ws sk sw : List ℕ} {c : 
     took-small t = (omega (arith, s .small), omega (arith, s .small, t .ends, t .fits))
 
     -- there is no room for it
-    pub full-out : (k e number : ℕ) (r : Lexed) → Took k e → number ≡ fullOf (placesOf sk₀ sw₀) (placesOf ks₀ ws₀) c k → (number ≡ 0 → ⊥) →
-        lexedMeant r ≡ refusedWith doc (record { end = e; number = number; start = c .at }) c (noteAt number (c .depth) sw) → Lexes doc text ks₀ ws₀ sk₀ sw₀ (lexedMeant r) ks ws sk sw
+    pub full-out : (k e number : ℕ) (r : Lexed) → Took k e → number ≡ noRoomOf (placesOf sk₀ sw₀) (placesOf ks₀ ws₀) c k → (number ≡ 0 → ⊥) →
+        lexedMeant r ≡ refusedWith doc (record { end = e; number = number; start = c .at }) c (noteAt number (c .depth) sw) → Lexes doc text (lent ks₀ ws₀) (lent sk₀ sw₀) (lexedMeant r) (lent ks ws) (lent sk sw)
     full-out k e number r t f z v =
         way-out (stopped number 0 (t .size)) r (standing-full s h k (t .size) (t .moves) (t .fits) (t .is) number (sym f) z)
         (v ∙ same (note-agrees number (full-unnoted (placesOf sk₀ sw₀) (placesOf ks₀ ws₀) c k number f)))
@@ -250,7 +233,7 @@ module _ {doc : ℕ} {text ks₀ ws₀ sk₀ sw₀ ks ws sk sw : List ℕ} {c : 
         same q = unfold verdictOf in rw (q, t .ends) (simp add-zero)
 
     -- the loop goes on
-    pub goes-on : {k e : ℕ} {ks′ ws′ sk′ sw′ : List ℕ} → Took k e → fullOf (placesOf sk₀ sw₀) (placesOf ks₀ ws₀) c k ≡ 0 → Wrote doc c k e ks ws sk sw ks′ ws′ sk′ sw′ →
+    pub goes-on : {k e : ℕ} {ks′ ws′ sk′ sw′ : List ℕ} → Took k e → noRoomOf (placesOf sk₀ sw₀) (placesOf ks₀ ws₀) c k ≡ 0 → Wrote doc c k e ks ws sk sw ks′ ws′ sk′ sw′ →
         Standing doc text ks₀ ws₀ sk₀ sw₀ ks′ ws′ sk′ sw′ (advanceOf c k e)
     goes-on {k} {e} t f w =
         let q : e ≡ c .at + t .size = t .ends in
@@ -259,29 +242,25 @@ module _ {doc : ℕ} {text ks₀ ws₀ sk₀ sw₀ ks ws sk sw : List ℕ} {c : 
 
 -- a refusal before the first step leaves everything as it was
 at-once : (doc : ℕ) (text ks ws sk sw : List ℕ) (number at : ℕ) (r : Lexed) → traceIn (placesOf ks ws) (placesOf sk sw) text ≡ ends (stopped number at 0) →
-    lexedMeant r ≡ refusedWith doc (record { end = at; number = number; start = at }) start none → Lexes doc text ks ws sk sw (lexedMeant r) ks ws sk sw
+    lexedMeant r ≡ refusedWith doc (record { end = at; number = number; start = at }) start none → Lexes doc text (lent ks ws) (lent sk sw) (lexedMeant r) (lent ks ws) (lent sk sw)
 unfolding lexing listing lexedOf verdictOf
 at-once doc text ks ws sk sw number at r t v =
     record {
       result = v ∙ rw t (simp (zero-add, add-zero));
-      kinds = rw t;
-      words = rw t;
-      stackKinds = refl;
-      stackWords = refl;
-      stackKindsLength = refl;
-      stackWordsLength = refl;
+      listed = same-lent (rw t) (rw t);
+      stacked = record { kinds = refl; words = refl; kindsLength = refl; wordsLength = refl };
     }
 
 -- the two checks before the first step
 pub long-out : (doc : ℕ) (text ks ws sk sw : List ℕ) (r : Lexed) → limit < length text →
-    lexedMeant r ≡ refusedWith doc (record { end = 0; number = TooLong; start = 0 }) start none → Lexes doc text ks ws sk sw (lexedMeant r) ks ws sk sw
+    lexedMeant r ≡ refusedWith doc (record { end = 0; number = TooLong; start = 0 }) start none → Lexes doc text (lent ks ws) (lent sk sw) (lexedMeant r) (lent ks ws) (lent sk sw)
 unfolding traceIn
 long-out doc text ks ws sk sw r h v =
     let t : traceIn (placesOf ks ws) (placesOf sk sw) text ≡ ends (stopped TooLong 0 0) = rw (trace-long text h) (within-ends (placesOf sk sw) 0 (placesOf ks ws) (stopped TooLong 0 0)) in
     at-once doc text ks ws sk sw TooLong 0 r t v
 
 pub bad-out : (doc : ℕ) (text ks ws sk sw : List ℕ) (bad : ℕ) (r : Lexed) → length text ≤ limit → firstBad text ≡ some bad →
-    lexedMeant r ≡ refusedWith doc (record { end = bad; number = NotUtf8; start = bad }) start none → Lexes doc text ks ws sk sw (lexedMeant r) ks ws sk sw
+    lexedMeant r ≡ refusedWith doc (record { end = bad; number = NotUtf8; start = bad }) start none → Lexes doc text (lent ks ws) (lent sk sw) (lexedMeant r) (lent ks ws) (lent sk sw)
 unfolding traceIn
 bad-out doc text ks ws sk sw bad r h e v =
     let t : traceIn (placesOf ks ws) (placesOf sk sw) text ≡ ends (stopped NotUtf8 bad 0) = rw (trace-bad text bad h e) (within-ends (placesOf sk sw) 0 (placesOf ks ws) (stopped NotUtf8 bad 0)) in

@@ -8,16 +8,17 @@ use lib.Dec.{ltb, eqb}
 use lib.ListN.{length, take, drop, getD}
 use borrow.Author.Tests.{ne-eqb, ltb-false}
 use Rattle.rules.specs.Kinds.{Nothing, isOpener}
-use Rattle.rules.specs.Lexing.{Lexeme, innermost, placesOf, lexemesIn}
-use Rattle.rules.specs.Walker.{Walker, openIn, codesOf, isAstray}
+use Rattle.rules.specs.Lent.{Lexeme, placesOf, lexemesIn, arrays}
+use Rattle.rules.specs.Lexing.{innermost}
+use Rattle.rules.specs.Walker.{Walker, openIn, codesOf, isMisplaced}
 use Rattle.rules.proofs.Text.{decide}
 use Rattle.list.specs.Entries.{firstOf}
 use Rattle.list.proofs.Entries.{places-length, lexeme-at}
 use Rattle.token.specs.Codes.{stateMeant, ifOpener}
 use Rattle.token.specs.declared.Opened.{Opened}
-use Rattle.lexer.specs.Memory.{topOf as stateOf}
-use Rattle.lexer.specs.Running.{innermostIn}
-use Rattle.lexer.specs.Stepping.{topOf, astrayBy}
+use Rattle.lexer.specs.Memory.{TopState}
+use Rattle.lexer.specs.Going.{innermostIn}
+use Rattle.lexer.specs.Stepping.{topOf, misplacedBy}
 
 -- one lexeme more is taken
 take-first : (ls : List Lexeme) (i : ℕ) → i < length ls → take (suc i) ls ≡ take i ls ++ (firstOf (drop i ls) ∷ [])
@@ -34,14 +35,14 @@ top-suc : (d : ℕ) (ks ws : List ℕ) → topOf (suc d) ks ws ≡ firstOf (drop
 top-suc d ks ws = let less : suc d - 1 ≡ d = omega arith in rw (some-open d, less)
 
 -- the innermost opener stands before the others
-pub open-suc : (d : ℕ) (ks ws : List ℕ) → suc d ≤ placesOf ks ws → openIn ks ws (suc d) ≡ topOf (suc d) ks ws ∷ openIn ks ws d
+pub open-suc : (d : ℕ) (ks ws : List ℕ) → suc d ≤ placesOf ks ws → openIn (arrays ks ws) (suc d) ≡ topOf (suc d) ks ws ∷ openIn (arrays ks ws) d
 open-suc d ks ws le =
     ap (λ (r : List Lexeme). reverse r) (take-first (lexemesIn ks ws) d (omega (arith, places-length ks ws)))
     ∙ reverse-append (take d (lexemesIn ks ws)) (firstOf (drop d (lexemesIn ks ws)) ∷ [])
-    ∙ ap (λ (l : Lexeme). l ∷ openIn ks ws d) (sym (top-suc d ks ws))
+    ∙ ap (λ (l : Lexeme). l ∷ openIn (arrays ks ws) d) (sym (top-suc d ks ws))
 
 -- its code is the innermost one
-pub top-kind : (depth : ℕ) (ks ws : List ℕ) → depth ≤ placesOf ks ws → innermost (codesOf (openIn ks ws depth)) ≡ topOf depth ks ws .kind
+pub top-kind : (depth : ℕ) (ks ws : List ℕ) → depth ≤ placesOf ks ws → innermost (codesOf (openIn (arrays ks ws) depth)) ≡ topOf depth ks ws .kind
 top-kind zero ks ws le = refl
 top-kind (suc d) ks ws le = rw (open-suc d ks ws le)
 
@@ -51,16 +52,16 @@ past true x y = refl
 past false x y = refl
 
 -- the test for 40 needs no more than the innermost opener's code
-pub astray-top : (text : List ℕ) (w : Walker) (ks ws : List ℕ) → isAstray text w ks ws ≡ astrayBy text (w .at) (w .depth) (placesOf ks ws) (topOf (w .depth) ks ws .kind)
-unfolding isAstray
-astray-top text w ks ws = decide (ltb (placesOf ks ws) (w .depth))
-    (λ e. rw e (past (ltb (length text) (w .at)) (not (eqb (w .depth) 0) && not (isOpener (innermost (codesOf (openIn ks ws (w .depth)))))) (not (eqb (w .depth) 0) && not (isOpener (topOf (w .depth) ks ws .kind)))))
+pub misplaced-top : (text : List ℕ) (w : Walker) (ks ws : List ℕ) → isMisplaced text w (arrays ks ws) ≡ misplacedBy text (w .at) (w .depth) (placesOf ks ws) (topOf (w .depth) ks ws .kind)
+unfolding isMisplaced
+misplaced-top text w ks ws = decide (ltb (placesOf ks ws) (w .depth))
+    (λ e. rw e (past (ltb (length text) (w .at)) (not (eqb (w .depth) 0) && not (isOpener (innermost (codesOf (openIn (arrays ks ws) (w .depth)))))) (not (eqb (w .depth) 0) && not (isOpener (topOf (w .depth) ks ws .kind)))))
     (λ e. rw (top-kind (w .depth) ks ws (ltb-false (placesOf ks ws) (w .depth) e)))
 
 -- so it holds where it is found by that code
-pub astray-found : (text : List ℕ) (w : Walker) (ks ws : List ℕ) (places kind : ℕ) (r : Bool) → r ≡ astrayBy text (w .at) (w .depth) places kind →
-    places ≡ placesOf ks ws → kind ≡ topOf (w .depth) ks ws .kind → isAstray text w ks ws ≡ r
-astray-found text w ks ws places kind r e p k = sym (e ∙ rw (p, k) (sym (astray-top text w ks ws)))
+pub misplaced-found : (text : List ℕ) (w : Walker) (ks ws : List ℕ) (places kind : ℕ) (r : Bool) → r ≡ misplacedBy text (w .at) (w .depth) places kind →
+    places ≡ placesOf ks ws → kind ≡ topOf (w .depth) ks ws .kind → isMisplaced text w (arrays ks ws) ≡ r
+misplaced-found text w ks ws places kind r e p k = sym (e ∙ rw (p, k) (sym (misplaced-top text w ks ws)))
 
 -- of three tests none holds
 pub none-of : (a b c : Bool) → a || b || c ≡ false → (a ≡ false) × (b ≡ false) × (c ≡ false)
@@ -71,7 +72,7 @@ none-of false true c e = let z : _≡_ {A = ℕ} 0 1 = cc in absurd (omega arith
 
 -- where it does not hold, what is open is the innermost code if it is an opener's, and else nothing
 pub innermost-top : (depth : ℕ) (ks ws : List ℕ) → depth ≤ placesOf ks ws → not (eqb depth 0) && not (isOpener (topOf depth ks ws .kind)) ≡ false →
-    innermost (codesOf (openIn ks ws depth)) ≡ cond (isOpener (topOf depth ks ws .kind)) (topOf depth ks ws .kind) Nothing
+    innermost (codesOf (openIn (arrays ks ws) depth)) ≡ cond (isOpener (topOf depth ks ws .kind)) (topOf depth ks ws .kind) Nothing
 unfolding isOpener
 innermost-top zero ks ws le e = refl
 innermost-top (suc d) ks ws le e = top-kind (suc d) ks ws le ∙ opener (eqb (suc d) 0) (isOpener (topOf (suc d) ks ws .kind)) (topOf (suc d) ks ws .kind) (some-open d) e
@@ -92,7 +93,7 @@ innermost-here (suc d) ks ws le =
     rw (kind, some-open d, less)
 
 -- and what it has opened is the state that the stack gives
-pub state-here : (depth : ℕ) (ks ws : List ℕ) (kind : ℕ) (r : Opened) → depth ≤ placesOf ks ws → kind ≡ topOf depth ks ws .kind → stateMeant r ≡ ifOpener kind → stateOf depth ks r
+pub state-here : (depth : ℕ) (ks ws : List ℕ) (kind : ℕ) (r : Opened) → depth ≤ placesOf ks ws → kind ≡ topOf depth ks ws .kind → stateMeant r ≡ ifOpener kind → TopState depth ks r
 unfolding ifOpener isOpener
 state-here zero ks ws kind r le k e = e ∙ rw k
 state-here (suc d) ks ws kind r le k e =

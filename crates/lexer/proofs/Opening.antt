@@ -9,8 +9,8 @@ use Rattle.rules.proofs.Text.{decide}
 use Rattle.token.specs.Codes.{stateMeant, ifOpener}
 use Rattle.token.specs.declared.Opened.{Opened}
 use Rattle.token.specs.declared.Opened.the-variants.{State as OpenedState, NoOpener}
-use Rattle.lexer.specs.Memory.{topOf}
-use Rattle.lexer.specs.Outcome.{innermostOf}
+use Rattle.lexer.specs.Memory.{TopState}
+use Rattle.sublexers.specs.Outcome.{innermostOf}
 
 -- the code itself, or of none nothing
 orNothing : Option ℕ → ℕ
@@ -28,6 +28,6 @@ unfolding orNothing ifOpener
 opened-code r k e = decide (isOpener k) (λ o. rw (meant-code r, e, o)) (λ o. rw (meant-code r, e, o))
 
 -- at depth 0 nothing is open
-pub nothing-open : (ks : List ℕ) → topOf 0 ks NoOpener
+pub nothing-open : (ks : List ℕ) → TopState 0 ks NoOpener
 unfolding stateMeant
 nothing-open ks = refl

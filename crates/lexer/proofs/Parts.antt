@@ -10,7 +10,7 @@ use Rattle.rules.specs.Refusals.{AnotherDue, StackFull, ListFull}
 use Rattle.rules.specs.Spans.{span, spanOf, low, high}
 use Rattle.rules.proofs.Text.{decide}
 use Rattle.lexer.specs.declared.Cursor.{Cursor}
-use Rattle.lexer.specs.Cursor.{fullOf}
+use Rattle.lexer.specs.Cursor.{noRoomOf}
 use Rattle.rules.proofs.Spans.{span-of-words}
 
 -- the words of a span within the limit name it
@@ -22,12 +22,12 @@ pub noted-open : (number depth : ℕ) → eqb number AnotherDue && ltb 0 depth �
 noted-open number depth e = decide (eqb number AnotherDue) (λ q. ltb-true 0 depth (rw q at e)) (λ q. absurd (false≢true (rw q at e)))
 
 -- when there is no room for a lexeme that opens, and for one that does not
-pub full-opener : (stack places : ℕ) (c : Cursor) (k : ℕ) → isSpace k ≡ false → isOpener k ≡ true → cond (leb stack (c .depth)) StackFull (cond (leb places (c .lexemes)) ListFull 0) ≡ fullOf stack places c k
-unfolding fullOf
+pub full-opener : (stack places : ℕ) (c : Cursor) (k : ℕ) → isSpace k ≡ false → isOpener k ≡ true → cond (leb stack (c .depth)) StackFull (cond (leb places (c .lexemes)) ListFull 0) ≡ noRoomOf stack places c k
+unfolding noRoomOf
 full-opener stack places c k b o = rw (b, o)
 
-pub full-other : (stack places : ℕ) (c : Cursor) (k : ℕ) → isSpace k ≡ false → isOpener k ≡ false → cond (leb places (c .lexemes)) ListFull 0 ≡ fullOf stack places c k
-unfolding fullOf
+pub full-other : (stack places : ℕ) (c : Cursor) (k : ℕ) → isSpace k ≡ false → isOpener k ≡ false → cond (leb places (c .lexemes)) ListFull 0 ≡ noRoomOf stack places c k
+unfolding noRoomOf
 full-other stack places c k b o = rw (b, o)
 
 -- a Space opens and closes nothing

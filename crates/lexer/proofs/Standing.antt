@@ -16,11 +16,12 @@ use Rattle.rules.specs.Refusals.{AnotherDue, UnclosedFormat, StackFull, ListFul
 use Rattle.rules.specs.Spans.{span, low, high, spanOf}
 use Rattle.rules.specs.Kinds.{Nothing, between, isSpace, isOpener, isCloser}
 use Rattle.rules.specs.Step.{found, stop, step}
-use Rattle.rules.specs.Lexing.{Piece, piece, End, stopped, Trace, noteOf, verdictOf, lexedOf, listing, lexing, ends, after, openAfter, codesAfter, innermost, atEnd, traceFrom, depthAfter, roomAfter, traceIn, lexemesOf, spacesOf, joined, deepestFrom, Lexeme, lexeme, placed, listedOf, openOf, placesOf, kindsWith, wordsWith}
+use Rattle.rules.specs.Lent.{Lexeme, lexeme, placesOf, kindsWith, wordsWith}
+use Rattle.rules.specs.Lexing.{Taken, taken, End, stopped, Trace, noteOf, verdictOf, lexedOf, listing, lexing, ends, after, openAfter, codesAfter, innermost, atEnd, traceFrom, depthAfter, roomAfter, traceIn, lexemesOf, spacesOf, joined, deepestFrom, placed, listedOf, openOf}
 use Rattle.rules.proofs.Trace.{joined-append, placed-append, listed-kept, open-append, open-codes, open-length, deepest-snoc, trace-found, trace-stopped, trace-ended, trace-good, within, within-ends, within-after, within-full-stack, within-full-list, behind, behind-after, behind-ends, kinds-snoc, words-snoc, OnStack, stack-push, stack-pop, stack-top-kind, untouched-more}
 use Rattle.rules.proofs.Text.{decide, keep-append}
 use Rattle.rules.proofs.Spans.{span-of-words}
-use Rattle.lexer.specs.Cursor.{start, advanceOf, fullOf}
+use Rattle.lexer.specs.Cursor.{start, advanceOf, noRoomOf}
 use Rattle.lexer.specs.declared.Cursor.{Cursor}
 use Rattle.lexer.proofs.Parts.{space-opens, space-closes}
 
@@ -54,14 +55,14 @@ and-second true b e t = e
 and-second false b e t = absurd (false≢true t)
 
 -- where there is room for a lexeme, neither the stack nor the list is full
-pub has-room : (stack places : ℕ) (c : Cursor) (k : ℕ) → fullOf stack places c k ≡ 0 → (isOpener k && leb stack (c .depth) ≡ false) × (not (isSpace k) && leb places (c .lexemes) ≡ false)
-unfolding fullOf
+pub has-room : (stack places : ℕ) (c : Cursor) (k : ℕ) → noRoomOf stack places c k ≡ 0 → (isOpener k && leb stack (c .depth) ≡ false) × (not (isSpace k) && leb places (c .lexemes) ≡ false)
+unfolding noRoomOf
 has-room stack places c k f = neither (isOpener k && leb stack (c .depth)) (not (isSpace k) && leb places (c .lexemes)) 29 30 f
 
-pub room-list : (stack places : ℕ) (c : Cursor) (k : ℕ) → fullOf stack places c k ≡ 0 → isSpace k ≡ false → c .lexemes < places
+pub room-list : (stack places : ℕ) (c : Cursor) (k : ℕ) → noRoomOf stack places c k ≡ 0 → isSpace k ≡ false → c .lexemes < places
 room-list stack places c k f b = leb-false places (c .lexemes) (and-second (not (isSpace k)) (leb places (c .lexemes)) (has-room stack places c k f .1) (ap not b))
 
-pub room-stack : (stack places : ℕ) (c : Cursor) (k : ℕ) → fullOf stack places c k ≡ 0 → isOpener k ≡ true → c .depth < stack
+pub room-stack : (stack places : ℕ) (c : Cursor) (k : ℕ) → noRoomOf stack places c k ≡ 0 → isOpener k ≡ true → c .depth < stack
 room-stack stack places c k f b = leb-false stack (c .depth) (and-second (isOpener k) (leb stack (c .depth)) (has-room stack places c k f .0) b)
 
 -- how many are open after one more lexeme: one more after an opener, one fewer after a closer, as many after another
@@ -89,35 +90,35 @@ openers-after os k a =
     (λ e. rw e (decide (isCloser k) (λ f. rw f (all-drop-one isOpener os a)) (λ f. rw f a)))
 
 -- the openers that are open after some steps, and their codes
-abbrev pub opened : (doc : ℕ) → List Piece → List Lexeme
+abbrev pub opened : (doc : ℕ) → List Taken → List Lexeme
 opened doc past = openOf [] (placed doc 0 past)
 
-abbrev pub codes : (doc : ℕ) → List Piece → List ℕ
+abbrev pub codes : (doc : ℕ) → List Taken → List ℕ
 codes doc past = map (λ l. l .kind) (opened doc past)
 
 -- one step more, with its span
-abbrev last : (doc : ℕ) → List Piece → Piece → Lexeme
+abbrev last : (doc : ℕ) → List Taken → Taken → Lexeme
 last doc past p = lexeme (p .kind) (span doc (length (joined past)) (length (joined past) + length (p .bytes)))
 
-joined-snoc : (past : List Piece) (p : Piece) → length (joined (past ++ (p ∷ []))) ≡ length (joined past) + length (p .bytes)
+joined-snoc : (past : List Taken) (p : Taken) → length (joined (past ++ (p ∷ []))) ≡ length (joined past) + length (p .bytes)
 joined-snoc past p = rw (joined-append past (p ∷ []), append-nil (p .bytes)) (length-append (joined past) (p .bytes))
 
-placed-snoc : (doc : ℕ) (past : List Piece) (p : Piece) → placed doc 0 (past ++ (p ∷ [])) ≡ placed doc 0 past ++ (last doc past p ∷ [])
+placed-snoc : (doc : ℕ) (past : List Taken) (p : Taken) → placed doc 0 (past ++ (p ∷ [])) ≡ placed doc 0 past ++ (last doc past p ∷ [])
 placed-snoc doc past p =
     let here : 0 + length (joined past) ≡ length (joined past) = omega arith in
     rw here at (placed-append doc 0 past (p ∷ []))
 
-opened-snoc : (doc : ℕ) (past : List Piece) (p : Piece) → opened doc (past ++ (p ∷ [])) ≡ openAfter (λ x. x .kind) (opened doc past) (last doc past p)
+opened-snoc : (doc : ℕ) (past : List Taken) (p : Taken) → opened doc (past ++ (p ∷ [])) ≡ openAfter (λ x. x .kind) (opened doc past) (last doc past p)
 opened-snoc doc past p = rw (placed-snoc doc past p) (open-append [] (placed doc 0 past) (last doc past p ∷ []))
 
-depth-snoc : (doc : ℕ) (past : List Piece) (p : Piece) → length (opened doc (past ++ (p ∷ []))) ≡ depthAfter (length (opened doc past)) (p .kind)
+depth-snoc : (doc : ℕ) (past : List Taken) (p : Taken) → length (opened doc (past ++ (p ∷ []))) ≡ depthAfter (length (opened doc past)) (p .kind)
 depth-snoc doc past p = rw (opened-snoc doc past p) (open-length (λ x. x .kind) (opened doc past) (last doc past p))
 
-codes-snoc : (doc : ℕ) (past : List Piece) (p : Piece) → codes doc (past ++ (p ∷ [])) ≡ codesAfter (codes doc past) (p .kind)
+codes-snoc : (doc : ℕ) (past : List Taken) (p : Taken) → codes doc (past ++ (p ∷ [])) ≡ codesAfter (codes doc past) (p .kind)
 codes-snoc doc past p = rw (opened-snoc doc past p) (open-codes (opened doc past) (last doc past p))
 
 -- no more is open than the deepest
-open-deepest : (doc at : ℕ) (os : List Lexeme) (ps : List Piece) → length (openOf os (placed doc at ps)) ≤ deepestFrom (length os) ps
+open-deepest : (doc at : ℕ) (os : List Lexeme) (ps : List Taken) → length (openOf os (placed doc at ps)) ≤ deepestFrom (length os) ps
 open-deepest doc at os [] = omega arith
 open-deepest doc at os (p ∷ ps) =
     let next : ℕ = at + length (p .bytes) in
@@ -127,7 +128,7 @@ open-deepest doc at os (p ∷ ps) =
     omega (arith, rw depth at (open-deepest doc next os₁ ps))
 
 -- the bytes of lexemes and of Spaces are all bytes
-parts : (ps : List Piece) → length (joined (lexemesOf ps)) + length (joined (spacesOf ps)) ≡ length (joined ps)
+parts : (ps : List Taken) → length (joined (lexemesOf ps)) + length (joined (spacesOf ps)) ≡ length (joined ps)
 parts [] = refl
 parts (p ∷ ps) =
     let more : length (joined (lexemesOf ps)) + length (joined (spacesOf ps)) ≡ length (joined ps) = parts ps in
@@ -136,7 +137,7 @@ parts (p ∷ ps) =
     (λ e. rw e (simp length-append (omega arith)))
 
 -- lexemes and Spaces are all steps
-steps-parts : (ps : List Piece) → length (lexemesOf ps) + length (spacesOf ps) ≡ length ps
+steps-parts : (ps : List Taken) → length (lexemesOf ps) + length (spacesOf ps) ≡ length ps
 steps-parts [] = refl
 steps-parts (p ∷ ps) =
     let more : length (lexemesOf ps) + length (spacesOf ps) ≡ length ps = steps-parts ps in
@@ -163,7 +164,7 @@ note-without number [] b = refl
 note-without number (o ∷ os) b = rw b
 
 -- the counts of some steps
-pub record Counted (doc : ℕ) (past : List Piece) (c : Cursor) : Type 0 where
+pub record Counted (doc : ℕ) (past : List Taken) (c : Cursor) : Type 0 where
   pub at : c .at ≡ length (joined past)
   pub depth : c .depth ≡ length (opened doc past)
   pub lexemes : c .lexemes ≡ length (lexemesOf past)
@@ -172,7 +173,7 @@ pub record Counted (doc : ℕ) (past : List Piece) (c : Cursor) : Type 0 where
   pub deepest : c .deepest ≡ deepestFrom 0 past
 
 -- one step more, which ends at `e`
-pub counted-snoc : (doc : ℕ) (past : List Piece) (p : Piece) (c : Cursor) (e : ℕ) → Counted doc past c → e ≡ c .at + length (p .bytes) → Counted doc (past ++ (p ∷ [])) (advanceOf c (p .kind) e)
+pub counted-snoc : (doc : ℕ) (past : List Taken) (p : Taken) (c : Cursor) (e : ℕ) → Counted doc past c → e ≡ c .at + length (p .bytes) → Counted doc (past ++ (p ∷ [])) (advanceOf c (p .kind) e)
 unfolding advanceOf
 counted-snoc doc past p c e h q =
     let at₁ : e ≡ length (joined (past ++ (p ∷ []))) = omega (arith, joined-snoc past p, h .at) in
@@ -244,7 +245,7 @@ room-after places c k e =
     (λ b. rw (lexemes-more c k e b, b) one-fewer)
 
 -- the list after one step more, `o` with its span
-module _ (doc : ℕ) (past : List Piece) (p : Piece) (o : Lexeme) (here : last doc past p ≡ o) (c : Cursor) (many : c .lexemes ≡ length (listedOf (placed doc 0 past))) where
+module _ (doc : ℕ) (past : List Taken) (p : Taken) (o : Lexeme) (here : last doc past p ≡ o) (c : Cursor) (many : c .lexemes ≡ length (listedOf (placed doc 0 past))) where
   listed-same : isSpace (p .kind) ≡ true → listedOf (placed doc 0 (past ++ (p ∷ []))) ≡ listedOf (placed doc 0 past)
   listed-same b = rw (placed-snoc doc past p) (keep-same (λ l. not (isSpace (l .kind))) (placed doc 0 past) (last doc past p) (ap not b))
 
@@ -310,7 +311,7 @@ module _ (doc : ℕ) (text ks₀ ws₀ sk₀ sw₀ : List ℕ) where
   pub record Standing (ks ws sk sw : List ℕ) (c : Cursor) : Type 0 where
     pub small : length text < 2 ^ 48
     pub id : doc < 2 ^ 32
-    pub past : List Piece
+    pub past : List Taken
     pub counted : Counted doc past c
     pub inside : c .at ≤ length text
     -- each step behind has a byte or more
@@ -391,7 +392,7 @@ module _ {doc : ℕ} {text ks₀ ws₀ sk₀ sw₀ ks ws sk sw : List ℕ} {c : 
   note-other number b = note-without number (opened doc (s .past)) b
 
   -- the call's answer where it ends here
-  pub answer : (e : End) → traceIn (placesOf ks₀ ws₀) (placesOf sk₀ sw₀) text ≡ record { pieces = s .past; end = e } →
+  pub answer : (e : End) → traceIn (placesOf ks₀ ws₀) (placesOf sk₀ sw₀) text ≡ record { taken = s .past; end = e } →
       lexing doc (placesOf ks₀ ws₀) (placesOf sk₀ sw₀) text ≡
       record { verdict = verdictOf doc (c .at) (opened doc (s .past)) e; lexemes = c .lexemes; steps = c .lexemes + c .spaces; kept = c .at - c .dropped; dropped = c .dropped; deepest = c .deepest }
   unfolding lexing lexedOf
@@ -401,7 +402,7 @@ module _ {doc : ℕ} {text ks₀ ws₀ sk₀ sw₀ ks ws sk sw : List ℕ} {c : 
       let kept : c .at - c .dropped ≡ length (joined (lexemesOf (s .past))) = omega (arith, n .at, n .dropped, parts (s .past)) in
       rw (q, steps, kept, n .at, n .lexemes, n .dropped, n .deepest)
 
-  pub listed : (e : End) → traceIn (placesOf ks₀ ws₀) (placesOf sk₀ sw₀) text ≡ record { pieces = s .past; end = e } →
+  pub listed : (e : End) → traceIn (placesOf ks₀ ws₀) (placesOf sk₀ sw₀) text ≡ record { taken = s .past; end = e } →
       listing doc (placesOf ks₀ ws₀) (placesOf sk₀ sw₀) text ≡ listedOf (placed doc 0 (s .past))
   unfolding listing
   listed e q = rw q
@@ -412,11 +413,11 @@ module _ {doc : ℕ} {text ks₀ ws₀ sk₀ sw₀ ks ws sk sw : List ℕ} {c : 
 
   -- where the rest gives no further step, the call ends here
   ends-here : (e : End) → within (placesOf sk₀ sw₀) (c .depth) (placesOf ks₀ ws₀ - c .lexemes) ahead ≡ ends e →
-      traceIn (placesOf ks₀ ws₀) (placesOf sk₀ sw₀) text ≡ record { pieces = s .past; end = e }
+      traceIn (placesOf ks₀ ws₀) (placesOf sk₀ sw₀) text ≡ record { taken = s .past; end = e }
   ends-here e q = s .whole ∙ ap (behind (s .past)) q ∙ behind-ends (s .past) e
 
   -- at the text's end
-  pub standing-end : length text ≤ c .at → traceIn (placesOf ks₀ ws₀) (placesOf sk₀ sw₀) text ≡ record { pieces = s .past; end = atEnd (codes doc (s .past)) }
+  pub standing-end : length text ≤ c .at → traceIn (placesOf ks₀ ws₀) (placesOf sk₀ sw₀) text ≡ record { taken = s .past; end = atEnd (codes doc (s .past)) }
   standing-end h =
       ends-here (atEnd (codes doc (s .past)))
       (rw (trace-ended (codes doc (s .past)) (drop (c .at) text) (omega (arith, length-drop (c .at) text)))
@@ -425,7 +426,7 @@ module _ {doc : ℕ} {text ks₀ ws₀ sk₀ sw₀ ks ws sk sw : List ℕ} {c : 
   module _ (h : c .at < length text) where
     -- a step that the text refuses
     pub standing-stop : (number from n : ℕ) → step (innermost (codes doc (s .past))) (drop (c .at) text) ≡ stop number from n →
-        traceIn (placesOf ks₀ ws₀) (placesOf sk₀ sw₀) text ≡ record { pieces = s .past; end = stopped number from n }
+        traceIn (placesOf ks₀ ws₀) (placesOf sk₀ sw₀) text ≡ record { taken = s .past; end = stopped number from n }
     standing-stop number from n e =
         ends-here (stopped number from n)
         (rw (trace-stopped (codes doc (s .past)) (drop (c .at) text) number from n (omega (arith, length-drop (c .at) text)) e)
@@ -433,8 +434,8 @@ module _ {doc : ℕ} {text ks₀ ws₀ sk₀ sw₀ ks ws sk sw : List ℕ} {c : 
 
     module _ (k n : ℕ) (moves : 0 < n) (fits : c .at + n ≤ length text) (e : step (innermost (codes doc (s .past))) (drop (c .at) text) ≡ found k n) where
       -- the step that was found, and the trace after it
-      abbrev now : Piece
-      now = piece k (take n (drop (c .at) text))
+      abbrev now : Taken
+      now = taken k (take n (drop (c .at) text))
 
       abbrev later : Trace
       later = traceFrom (codesAfter (codes doc (s .past)) k) 0 (drop n (drop (c .at) text))
@@ -447,21 +448,21 @@ module _ {doc : ℕ} {text ks₀ ws₀ sk₀ sw₀ ks ws sk sw : List ℕ} {c : 
 
       -- a lexeme for which there is no room
       full-stack : isOpener k && leb (placesOf sk₀ sw₀) (c .depth) ≡ true →
-          traceIn (placesOf ks₀ ws₀) (placesOf sk₀ sw₀) text ≡ record { pieces = s .past; end = stopped StackFull 0 n }
+          traceIn (placesOf ks₀ ws₀) (placesOf sk₀ sw₀) text ≡ record { taken = s .past; end = stopped StackFull 0 n }
       full-stack a =
           ends-here (stopped StackFull 0 n)
           (rw now-later (within-full-stack (placesOf sk₀ sw₀) (c .depth) (placesOf ks₀ ws₀ - c .lexemes) now later a ∙ rw now-length))
 
       full-list : isOpener k && leb (placesOf sk₀ sw₀) (c .depth) ≡ false → not (isSpace k) && leb (placesOf ks₀ ws₀) (c .lexemes) ≡ true →
-          traceIn (placesOf ks₀ ws₀) (placesOf sk₀ sw₀) text ≡ record { pieces = s .past; end = stopped ListFull 0 n }
+          traceIn (placesOf ks₀ ws₀) (placesOf sk₀ sw₀) text ≡ record { taken = s .past; end = stopped ListFull 0 n }
       full-list a b =
           let left : ℕ = placesOf ks₀ ws₀ - c .lexemes in
           let spent : not (isSpace k) && eqb left 0 ≡ true = rw (none-left (placesOf ks₀ ws₀) (c .lexemes)) at b in
           ends-here (stopped ListFull 0 n) (rw now-later (within-full-list (placesOf sk₀ sw₀) (c .depth) left now later a spent ∙ rw now-length))
 
-      pub standing-full : (number : ℕ) → fullOf (placesOf sk₀ sw₀) (placesOf ks₀ ws₀) c k ≡ number → (number ≡ 0 → ⊥) →
-          traceIn (placesOf ks₀ ws₀) (placesOf sk₀ sw₀) text ≡ record { pieces = s .past; end = stopped number 0 n }
-      unfolding fullOf
+      pub standing-full : (number : ℕ) → noRoomOf (placesOf sk₀ sw₀) (placesOf ks₀ ws₀) c k ≡ number → (number ≡ 0 → ⊥) →
+          traceIn (placesOf ks₀ ws₀) (placesOf sk₀ sw₀) text ≡ record { taken = s .past; end = stopped number 0 n }
+      unfolding noRoomOf
       standing-full number f full =
           decide (isOpener k && leb (placesOf sk₀ sw₀) (c .depth))
           (λ a. let due : StackFull ≡ number = rw a at f in rw (← due) (full-stack a))
@@ -470,7 +471,7 @@ module _ {doc : ℕ} {text ks₀ ws₀ sk₀ sw₀ ks ws sk sw : List ℕ} {c : 
           (λ b. let due : 0 ≡ number = rw (a, b) at f in absurd (full (sym due))))
 
       -- the whole call's trace, with the step that was found among those behind
-      whole-on : fullOf (placesOf sk₀ sw₀) (placesOf ks₀ ws₀) c k ≡ 0 →
+      whole-on : noRoomOf (placesOf sk₀ sw₀) (placesOf ks₀ ws₀) c k ≡ 0 →
           traceIn (placesOf ks₀ ws₀) (placesOf sk₀ sw₀) text ≡
           behind (s .past ++ (now ∷ []))
           (within (placesOf sk₀ sw₀) (advanceOf c k (c .at + n) .depth) (placesOf ks₀ ws₀ - advanceOf c k (c .at + n) .lexemes)
@@ -486,11 +487,11 @@ module _ {doc : ℕ} {text ks₀ ws₀ sk₀ sw₀ ks ws sk sw : List ℕ} {c : 
           ∙ rw (m .depth, ← (room-after (placesOf ks₀ ws₀) c k (c .at + n)), codes-snoc doc (s .past) now, m .at, drop-drop n (c .at) text)
 
       -- a lexeme for which there is room, whose span has these two words
-      pub standing-on : (l hi : ℕ) → fullOf (placesOf sk₀ sw₀) (placesOf ks₀ ws₀) c k ≡ 0 → l ≡ low (span doc (c .at) (c .at + n)) → hi ≡ high (span doc (c .at) (c .at + n)) →
+      pub standing-on : (l hi : ℕ) → noRoomOf (placesOf sk₀ sw₀) (placesOf ks₀ ws₀) c k ≡ 0 → l ≡ low (span doc (c .at) (c .at + n)) → hi ≡ high (span doc (c .at) (c .at + n)) →
           Standing doc text ks₀ ws₀ sk₀ sw₀ (kindsAfter c k ks) (wordsAfter c k l hi ws) (stackKindsAfter c k sk) (stackWordsAfter c k l hi sw) (advanceOf c k (c .at + n))
       standing-on l hi f el eh =
           let c₁ : Cursor = advanceOf c k (c .at + n) in
-          let past₁ : List Piece = s .past ++ (now ∷ []) in
+          let past₁ : List Taken = s .past ++ (now ∷ []) in
           let o : Lexeme = lexeme k (span doc (c .at) (c .at + n)) in
           let m : Advanced c k (c .at + n) c₁ = advanced c k (c .at + n) (s .deeper) in
           let counted₁ : Counted doc past₁ c₁ = counted-snoc doc (s .past) now c (c .at + n) (s .counted) (omega (arith, now-length)) in

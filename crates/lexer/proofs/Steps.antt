@@ -2,25 +2,25 @@
 use Prim.Native.Nat.{ℕ, suc, _+_, _<_}
 use Prim.Native.Char.{code}
 use mathlib.Core.Path.{_≡_, refl, sym, _∙_}
-use mathlib.Core.List.{List}
-use mathlib.Core.Bool.{Bool, true, false, cond, _&&_}
+use mathlib.Core.List.{List, _∷_}
+use mathlib.Core.Bool.{Bool, true, false, cond}
 use native.Mathlib.Omega.{arith}
 use lib.ListN.{length, drop, getD}
 use lib.Seq.{drop-cons}
-use Rattle.rules.specs.Text.{is, begins, run}
-use Rattle.rules.specs.Bytes.{isControl, isOver127, classOf, Whitespace, Control, Digit, Letter, Punctuation, Over127}
+use Rattle.rules.specs.Text.{run}
+use Rattle.rules.specs.Bytes.{isControl, isOver127, isIdentifierByte, classOf, Whitespace, Control, Digit, Letter, Punctuation, Over127}
 use Rattle.rules.specs.Refusals.{ControlByte, NotAscii}
-use Rattle.rules.specs.Kinds.{FormatDouble, FormatTriple, isQuoteOpen, isFormat, isTriple}
-use Rattle.rules.specs.Step.{found, stop, number, identifier, whitespace, outside, step}
-use Rattle.rules.proofs.Runs.{begins-at, begins-more}
+use Rattle.rules.specs.Kinds.{isQuoteOpen, isFormat, isTriple}
+use Rattle.rules.specs.Step.{stop, number, whitespace, outside, step}
+use Rattle.rules.proofs.Runs.{drop-byte}
 use Rattle.rules.proofs.Text.{decide}
 use Rattle.token.specs.Codes.{quoteCode}
 use Rattle.token.specs.declared.QuoteStyle.{QuoteStyle}
 use Rattle.token.specs.declared.QuoteStyle.the-variants.{Double, Triple}
 use Rattle.token.specs.declared.StringPrefix.the-variants.{None, Format}
-use Rattle.lexer.specs.ByClass.{lettered, punctuated}
-use Rattle.lexer.specs.Outcome.{Outcome, outcome}
-use Rattle.lexer.specs.Quotes.{Quoted, stopOf}
+use Rattle.sublexers.specs.ByClass.{letteredBy, punctuated}
+use Rattle.sublexers.specs.Quotes.{stopOf, insideBy}
+use Rattle.sublexers.proofs.Quoted.{inside-by}
 use Rattle.lexer.proofs.ByClass.{at-whitespace, at-control, at-digit, at-letter, at-punctuation, at-over-127, six}
 
 module _ (t : List ℕ) (at i : ℕ) (h : at < length t) where
@@ -33,11 +33,11 @@ module _ (t : List ℕ) (at i : ℕ) (h : at < length t) where
   pub here-digit : classOf (getD t at 0) ≡ Digit → outside i (drop at t) ≡ number (drop at t)
   here-digit e = rw (drop-cons t at 0) (at-digit i (getD t at 0) (drop (suc at) t) e)
 
-  pub here-letter : classOf (getD t at 0) ≡ Letter → outside i (drop at t) ≡ lettered (drop at t)
-  here-letter e = rw (drop-cons t at 0) (at-letter i (getD t at 0) (drop (suc at) t) e)
+  pub here-letter : classOf (getD t at 0) ≡ Letter → outside i (drop at t) ≡ letteredBy isIdentifierByte (getD t at 0) (drop (at + 1) t) (drop at t)
+  here-letter e = rw (drop-byte t at (getD t at 0) h refl) (at-letter i (getD t at 0) (drop (at + 1) t) e)
 
-  pub here-punctuation : classOf (getD t at 0) ≡ Punctuation → outside i (drop at t) ≡ punctuated i (drop at t)
-  here-punctuation e = rw (drop-cons t at 0) (at-punctuation i (getD t at 0) (drop (suc at) t) e)
+  pub here-punctuation : classOf (getD t at 0) ≡ Punctuation → outside i (drop at t) ≡ punctuated i (getD t at 0 ∷ drop (at + 1) t)
+  here-punctuation e = rw (drop-byte t at (getD t at 0) h refl) (at-punctuation i (getD t at 0) (drop (at + 1) t) e)
 
   pub here-over-127 : classOf (getD t at 0) ≡ Over127 → outside i (drop at t) ≡ stop NotAscii 0 (run isOver127 (drop at t))
   here-over-127 e = rw (drop-cons t at 0) (at-over-127 i (getD t at 0) (drop (suc at) t) e)
@@ -45,21 +45,6 @@ module _ (t : List ℕ) (at i : ℕ) (h : at < length t) where
 -- a class that is none of the first five
 pub last-class : (b k : ℕ) → k ≡ classOf b → (k ≡ Whitespace → ⊥) → (k ≡ Control → ⊥) → (k ≡ Digit → ⊥) → (k ≡ Letter → ⊥) → (k ≡ Punctuation → ⊥) → classOf b ≡ Over127
 last-class b k e w c d l p = six b (classOf b ≡ Over127) (λ q. absurd (w (e ∙ q))) (λ q. absurd (c (e ∙ q))) (λ q. absurd (d (e ∙ q))) (λ q. absurd (l (e ∙ q))) (λ q. absurd (p (e ∙ q))) (λ q. q)
-
--- a letter: an `f` with a quote behind it opens a format string
-pub letter-at : (t : List ℕ) (at : ℕ) →
-    lettered (drop at t) ≡ cond (is "f" (getD t at 0) && is "\"" (getD t (at + 1) 0)) (cond (begins "\"\"" (drop (at + 2) t)) (found FormatTriple 4) (found FormatDouble 2)) (identifier (drop at t))
-unfolding lettered
-letter-at t at =
-    let two : at + 1 + 1 ≡ at + 2 = omega arith in
-    rw (begins-more "f" "\"\"\"" t at refl, begins-more "f" "\"" t at refl, begins-more "\"" "\"\"" t (at + 1) refl, begins-at "\"" t (at + 1) refl, two)
-    (tests (is "f" (getD t at 0)) (is "\"" (getD t (at + 1) 0)) (begins "\"\"" (drop (at + 2) t)))
-  where
-    tests : (a b d : Bool) → cond (a && (b && d)) (found FormatTriple 4) (cond (a && b) (found FormatDouble 2) (identifier (drop at t))) ≡ cond (a && b) (cond d (found FormatTriple 4) (found FormatDouble 2)) (identifier (drop at t))
-    tests true true true = refl
-    tests true true false = refl
-    tests true false d = refl
-    tests false b d = refl
 
 -- inside or outside, by the byte that ends an inner part, 0 outside
 stop-some : (k : ℕ) → (stopOf k ≡ 0 → ⊥)
@@ -75,10 +60,12 @@ step-outside k byte s e z = decide (isQuoteOpen k)
     (λ q. absurd (stop-some k (sym (e ∙ rw q) ∙ z)))
     (λ q. rw q)
 
-pub step-inside : (k byte : ℕ) (triple : Bool) (at : ℕ) (s : List ℕ) (o : Outcome) → byte ≡ cond (isQuoteOpen k) (stopOf k) 0 → (byte ≡ 0 → ⊥) → triple ≡ isTriple k → Quoted at s byte triple o → o ≡ outcome at (step k s)
+pub step-inside : (k byte : ℕ) (triple : Bool) (s : List ℕ) → byte ≡ cond (isQuoteOpen k) (stopOf k) 0 → (byte ≡ 0 → ⊥) → triple ≡ isTriple k → step k s ≡ insideBy byte triple s
 unfolding step
-step-inside k byte triple at s o e z t q = decide (isQuoteOpen k)
-    (λ i. rw i (q .same k i (e ∙ rw i) t))
+step-inside k byte triple s e z t = decide (isQuoteOpen k)
+    (λ i.
+    let same : byte ≡ stopOf k = rw i at e in
+    rw (i, t, same) (sym (inside-by k s)))
     (λ i. absurd (z (e ∙ rw i)))
 
 -- the byte of a string's opener, plain and format
@@ -89,9 +76,3 @@ plain-stop Triple = refl
 pub format-stop : (style : QuoteStyle) → code "{" ≡ cond (isQuoteOpen (quoteCode Format style)) (stopOf (quoteCode Format style)) 0
 format-stop Double = refl
 format-stop Triple = refl
-
--- two quotes two bytes further
-pub quotes-at : (t : List ℕ) (at : ℕ) → begins "\"\"" (drop (at + 2) t) ≡ is "\"" (getD t (at + 2) 0) && is "\"" (getD t (at + 3) 0)
-quotes-at t at =
-    let three : at + 2 + 1 ≡ at + 3 = omega arith in
-    rw (begins-more "\"" "\"" t (at + 2) refl, begins-at "\"" t (at + 2 + 1) refl, three)

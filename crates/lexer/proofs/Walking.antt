@@ -9,24 +9,28 @@ use mathlib.Core.Option.{Option, none, some}
 use lib.Dec.{leb, ltb, eqb}
 use lib.ListN.{length, drop, getD, set, length-drop}
 use borrow.Author.Tests.{lt-ltb, le-ltb, le-leb, lt-leb, ltb-false, leb-false, eqb-true}
-use Rattle.rules.specs.Spans.{Span, span, low, high, limit, Answer, given, refused, refuse, Refusal, Verdict}
 use Rattle.rules.specs.Refusals.{AnotherDue, UnclosedFormat, StackFull, WrongForm}
+use Rattle.rules.specs.Spans.{Span, span, low, high, limit}
+use Rattle.rules.specs.Answers.{Answer, given, refused, refuse, Refusal, Verdict}
 use Rattle.rules.specs.Kinds.{Nothing, between, isSpace, isOpener}
 use Rattle.rules.specs.Step.{Step, found, stop, step}
-use Rattle.rules.specs.Lexing.{stopped, Lexeme, lexeme, atEnd, innermost, depthAfter, placesOf, noteOf, verdictOf}
-use Rattle.rules.specs.Walker.{nothing, keptRefusal, Walker, Walked, walking, walkedFresh, walkedAt, walkedStep, walkedEnd, goes, kindsPut, wordsPut, openIn, codesOf, isAstray}
+use Rattle.rules.specs.Lent.{Lexeme, lexeme, placesOf, arrays}
+use Rattle.rules.specs.Lexing.{stopped, atEnd, innermost, depthAfter, noteOf, verdictOf}
+use Rattle.rules.specs.Walker.{nothing, keptRefusal, Walker, Walked, walking, walkedFresh, walkedAt, walkedStep, walkedEnd, goes, openerPut, openIn, codesOf, isMisplaced}
+use Rattle.rules.proofs.Listed.{same-arrays}
 use Rattle.rules.proofs.Text.{decide}
 use Rattle.rules.proofs.Bounds.{found-inside, stop-inside}
 use Rattle.lexer.specs.declared.Cursor.{Cursor}
-use Rattle.lexer.specs.declared.Fault.{Fault}
+use Rattle.sublexers.specs.declared.Fault.{Fault}
 use Rattle.lexer.specs.declared.StepAnswer.{StepAnswer}
 use Rattle.lexer.specs.declared.StepAnswer.the-variants.{Lexeme as Found, Ended, Refused as RefusedAnswer}
 use Rattle.lexer.specs.declared.Stepped.{Stepped}
-use Rattle.lexer.specs.Outcome.{lexemeTo, refusedAt, outcome}
-use Rattle.lexer.specs.Running.{innermostIn, Refuses, byText, byStack}
+use Rattle.sublexers.specs.Outcome.{lexemeTo, refusedAt, outcome}
+use Rattle.lexer.specs.Going.{innermostIn}
 use Rattle.lexer.specs.Stepping.{answerMeant, Coded, walkerAt, Walks, Moved, moved, movedMeant, movedOf, topOf, noteBy, endBy, foundBy, refusedBy, stepBy, movedBy, Writes, CanStep}
 use Rattle.lexer.proofs.Loop.{outcome-found, Stop, outcome-stop, unclosed-noted}
-use Rattle.lexer.proofs.Openers.{some-open, open-suc, innermost-top, innermost-here, astray-top, none-of}
+use Rattle.lexer.proofs.Single.{RefusedOnce, byText, byStack}
+use Rattle.lexer.proofs.Openers.{some-open, open-suc, innermost-top, innermost-here, misplaced-top, none-of}
 
 -- where something is open, a refusal notes the first
 note-same : (number d : ℕ) (l : Lexeme) (ls : List Lexeme) → noteOf number (l ∷ ls) ≡ noteBy number (suc d) l
@@ -38,29 +42,29 @@ module _ (doc at : ℕ) (text ks ws : List ℕ) where
   fresh depth = walkerAt doc at depth nothing
 
   step-same : (depth : ℕ) → depth ≤ placesOf ks ws → (st : Step) →
-      movedOf (walkedStep text (fresh depth) ks ws st) ≡ stepBy doc at depth (placesOf ks ws) (topOf depth ks ws) st
+      movedOf (walkedStep text (fresh depth) (arrays ks ws) st) ≡ stepBy doc at depth (placesOf ks ws) (topOf depth ks ws) st
   unfolding verdictOf
   step-same depth le (found k n) = decide (isOpener k && leb (placesOf ks ws) depth) (λ e. rw e) (λ e. rw e)
   step-same zero le (stop number from n) = refl
   step-same (suc d) le (stop number from n) =
       ap (λ (o : Option Span). moved (refused (record { number = number; at = span doc (at + from) (at + from + n); note = o })) at (suc d))
-      (ap (λ (ls : List Lexeme). noteOf number ls) (open-suc d ks ws le) ∙ note-same number d (topOf (suc d) ks ws) (openIn ks ws d))
+      (ap (λ (ls : List Lexeme). noteOf number ls) (open-suc d ks ws le) ∙ note-same number d (topOf (suc d) ks ws) (openIn (arrays ks ws) d))
 
   end-open : (d : ℕ) (l : Lexeme) (ls : List Lexeme) →
-      movedOf (walkedEnd text (fresh (suc d)) ks ws (verdictOf doc at (l ∷ ls) (atEnd (codesOf (l ∷ ls))))) ≡ moved (endBy (span doc at at) (suc d) l) at (suc d)
+      movedOf (walkedEnd text (fresh (suc d)) (arrays ks ws) (verdictOf doc at (l ∷ ls) (atEnd (codesOf (l ∷ ls))))) ≡ moved (endBy (span doc at at) (suc d) l) at (suc d)
   unfolding verdictOf
   end-open d l ls = rw (some-open d, unclosed-noted (l .kind)) (simp add-zero)
 
   end-same : (depth : ℕ) → depth ≤ placesOf ks ws →
-      movedOf (walkedAt text (fresh depth) ks ws []) ≡ moved (endBy (span doc at at) depth (topOf depth ks ws)) at depth
+      movedOf (walkedAt text (fresh depth) (arrays ks ws) []) ≡ moved (endBy (span doc at at) depth (topOf depth ks ws)) at depth
   unfolding verdictOf
   end-same zero le = refl
   end-same (suc d) le =
-      ap (λ (ls : List Lexeme). movedOf (walkedEnd text (fresh (suc d)) ks ws (verdictOf doc at ls (atEnd (codesOf ls))))) (open-suc d ks ws le)
-      ∙ end-open d (topOf (suc d) ks ws) (openIn ks ws d)
+      ap (λ (ls : List Lexeme). movedOf (walkedEnd text (fresh (suc d)) (arrays ks ws) (verdictOf doc at ls (atEnd (codesOf ls))))) (open-suc d ks ws le)
+      ∙ end-open d (topOf (suc d) ks ws) (openIn (arrays ks ws) d)
 
   rest-same : (depth : ℕ) → depth ≤ placesOf ks ws → not (eqb depth 0) && not (isOpener (topOf depth ks ws .kind)) ≡ false →
-      (s : List ℕ) → drop at text ≡ s → movedOf (walkedAt text (fresh depth) ks ws s) ≡ movedBy doc text at depth (placesOf ks ws) (topOf depth ks ws)
+      (s : List ℕ) → drop at text ≡ s → movedOf (walkedAt text (fresh depth) (arrays ks ws) s) ≡ movedBy doc text at depth (placesOf ks ws) (topOf depth ks ws)
   unfolding movedBy
   rest-same depth le o [] e =
       let over : length text ≤ at = omega (arith, length-drop at text, ap (λ (l : List ℕ). length l) e) in
@@ -69,69 +73,69 @@ module _ (doc at : ℕ) (text ks ws : List ℕ) where
       let l : length (drop at text) ≡ suc (length s) = ap (λ (l : List ℕ). length l) e in
       let inside : at < length text = omega (arith, length-drop at text, l) in
       rw (lt-leb (length text) at inside, ← innermost-top depth ks ws le o, e)
-      (step-same depth le (step (innermost (codesOf (openIn ks ws depth))) (b ∷ s)))
+      (step-same depth le (step (innermost (codesOf (openIn (arrays ks ws) depth))) (b ∷ s)))
 
   -- past 2 comes 40
-  pub walking-astray : (depth : ℕ) → length text ≤ limit → isAstray text (fresh depth) ks ws ≡ true →
-      movedOf (walking text (fresh depth) ks ws) ≡ moved (refuse WrongForm (span doc 0 0)) at depth
+  pub walking-misplaced : (depth : ℕ) → length text ≤ limit → isMisplaced text (fresh depth) (arrays ks ws) ≡ true →
+      movedOf (walking text (fresh depth) (arrays ks ws)) ≡ moved (refuse WrongForm (span doc 0 0)) at depth
   unfolding walking
-  walking-astray depth small e = rw (le-ltb limit (length text) small, e)
+  walking-misplaced depth small e = rw (le-ltb limit (length text) small, e)
 
   -- past 2 and 40 a step is one by the innermost opener
-  pub walking-on : (depth : ℕ) → length text ≤ limit → isAstray text (fresh depth) ks ws ≡ false →
-      movedOf (walking text (fresh depth) ks ws) ≡ movedBy doc text at depth (placesOf ks ws) (topOf depth ks ws)
+  pub walking-on : (depth : ℕ) → length text ≤ limit → isMisplaced text (fresh depth) (arrays ks ws) ≡ false →
+      movedOf (walking text (fresh depth) (arrays ks ws)) ≡ movedBy doc text at depth (placesOf ks ws) (topOf depth ks ws)
   unfolding walking
   walking-on depth small e =
-      let three = none-of (ltb (length text) at) (ltb (placesOf ks ws) depth) (not (eqb depth 0) && not (isOpener (topOf depth ks ws .kind))) (sym (astray-top text (fresh depth) ks ws) ∙ e) in
+      let three = none-of (ltb (length text) at) (ltb (placesOf ks ws) depth) (not (eqb depth 0) && not (isOpener (topOf depth ks ws .kind))) (sym (misplaced-top text (fresh depth) ks ws) ∙ e) in
       rw (le-ltb limit (length text) small, e) (rest-same depth (ltb-false (placesOf ks ws) depth (three .1)) (three .2) (drop at text) refl)
 
   -- and stands in the text or at its end
-  pub walking-inside : (depth : ℕ) → isAstray text (fresh depth) ks ws ≡ false → at ≤ length text
+  pub walking-inside : (depth : ℕ) → isMisplaced text (fresh depth) (arrays ks ws) ≡ false → at ≤ length text
   walking-inside depth e =
-      let three = none-of (ltb (length text) at) (ltb (placesOf ks ws) depth) (not (eqb depth 0) && not (isOpener (topOf depth ks ws .kind))) (sym (astray-top text (fresh depth) ks ws) ∙ e) in
+      let three = none-of (ltb (length text) at) (ltb (placesOf ks ws) depth) (not (eqb depth 0) && not (isOpener (topOf depth ks ws .kind))) (sym (misplaced-top text (fresh depth) ks ws) ∙ e) in
       ltb-false (length text) at (three .0)
 
   -- what is open stands in the stack
-  pub walking-shallow : (depth : ℕ) → isAstray text (fresh depth) ks ws ≡ false → depth ≤ placesOf ks ws
+  pub walking-shallow : (depth : ℕ) → isMisplaced text (fresh depth) (arrays ks ws) ≡ false → depth ≤ placesOf ks ws
   walking-shallow depth e =
-      let three = none-of (ltb (length text) at) (ltb (placesOf ks ws) depth) (not (eqb depth 0) && not (isOpener (topOf depth ks ws .kind))) (sym (astray-top text (fresh depth) ks ws) ∙ e) in
+      let three = none-of (ltb (length text) at) (ltb (placesOf ks ws) depth) (not (eqb depth 0) && not (isOpener (topOf depth ks ws .kind))) (sym (misplaced-top text (fresh depth) ks ws) ∙ e) in
       ltb-false (placesOf ks ws) depth (three .1)
 
 -- what a step writes is told by its answer
 module _ (text : List ℕ) (w : Walker) (ks ws : List ℕ) where
   abbrev Told : Walked → Type 0
-  Told r = Writes (r .answer) (w .depth) ks ws (r .kinds) (r .words)
+  Told r = Writes (r .answer) (w .depth) ks ws (r .stack .kinds) (r .stack .words)
 
   either : (b : Bool) (x y : Walked) → (b ≡ true → Told x) → (b ≡ false → Told y) → Told (cond b x y)
   either true x y f g = f refl
   either false x y f g = g refl
 
-  end-told : (v : Verdict) → Told (walkedEnd text w ks ws v)
+  end-told : (v : Verdict) → Told (walkedEnd text w (arrays ks ws) v)
   end-told (given u) = record { kinds = refl; words = refl }
   end-told (refused r) = record { kinds = refl; words = refl }
 
-  goes-told : (l : Lexeme) → isOpener (l .kind) && leb (placesOf ks ws) (w .depth) ≡ false → Told (goes text w ks ws l)
-  unfolding kindsPut wordsPut
+  goes-told : (l : Lexeme) → isOpener (l .kind) && leb (placesOf ks ws) (w .depth) ≡ false → Told (goes text w (arrays ks ws) l)
+  unfolding openerPut
   goes-told l e = decide (isOpener (l .kind))
       (λ o.
       let room : ltb (w .depth) (placesOf ks ws) ≡ true = lt-ltb (w .depth) (placesOf ks ws) (leb-false (placesOf ks ws) (w .depth) (rw o at e)) in
       record { kinds = rw (o, room); words = rw (o, room) })
       (λ o. record { kinds = rw o; words = rw o })
 
-  step-told : (s : Step) → Told (walkedStep text w ks ws s)
-  step-told (stop number from n) = end-told (verdictOf (w .doc) (w .at) (openIn ks ws (w .depth)) (stopped number from n))
+  step-told : (s : Step) → Told (walkedStep text w (arrays ks ws) s)
+  step-told (stop number from n) = end-told (verdictOf (w .doc) (w .at) (openIn (arrays ks ws) (w .depth)) (stopped number from n))
   step-told (found k n) = either (isOpener k && leb (placesOf ks ws) (w .depth)) _ _ (λ e. record { kinds = refl; words = refl }) (λ e. goes-told (lexeme k (span (w .doc) (w .at) (w .at + n))) e)
 
-  rest-told : (s : List ℕ) → Told (walkedAt text w ks ws s)
-  rest-told [] = end-told (verdictOf (w .doc) (w .at) (openIn ks ws (w .depth)) (atEnd (codesOf (openIn ks ws (w .depth)))))
-  rest-told (b ∷ s) = step-told (step (innermost (codesOf (openIn ks ws (w .depth)))) (b ∷ s))
+  rest-told : (s : List ℕ) → Told (walkedAt text w (arrays ks ws) s)
+  rest-told [] = end-told (verdictOf (w .doc) (w .at) (openIn (arrays ks ws) (w .depth)) (atEnd (codesOf (openIn (arrays ks ws) (w .depth)))))
+  rest-told (b ∷ s) = step-told (step (innermost (codesOf (openIn (arrays ks ws) (w .depth)))) (b ∷ s))
 
-  fresh-told : (r : Option Refusal) → Told (walkedFresh text w ks ws r)
+  fresh-told : (r : Option Refusal) → Told (walkedFresh text w (arrays ks ws) r)
   fresh-told (some r) = record { kinds = refl; words = refl }
   fresh-told none = either (ltb limit (length text)) _ _ (λ e. record { kinds = refl; words = refl }) (λ e.
-      either (isAstray text w ks ws) _ _ (λ e. record { kinds = refl; words = refl }) (λ e. rest-told (drop (w .at) text)))
+      either (isMisplaced text w (arrays ks ws)) _ _ (λ e. record { kinds = refl; words = refl }) (λ e. rest-told (drop (w .at) text)))
 
-  pub walking-told : Told (walking text w ks ws)
+  pub walking-told : Told (walking text w (arrays ks ws))
   unfolding walking
   walking-told = fresh-told (keptRefusal (w .doc) (w .kept))
 
@@ -156,8 +160,8 @@ end-still at depth top = decide (eqb depth 0) (λ e. rw e tt) (λ e. rw e tt)
 
 -- a step that moves as the rule does and writes what its answer says is the rule's
 module _ (doc at depth : ℕ) (text ks ws : List ℕ) (r : Stepped) where
-  pub walks-by : {ks′ ws′ : List ℕ} → movedMeant r ≡ movedOf (walking text (walkerAt doc at depth nothing) ks ws) → Coded (r .answer) → Writes (answerMeant (r .answer)) depth ks ws ks′ ws′ →
-      Walks text (walkerAt doc at depth nothing) ks ws r ks′ ws′
+  pub walks-by : {ks′ ws′ : List ℕ} → movedMeant r ≡ movedOf (walking text (walkerAt doc at depth nothing) (arrays ks ws)) → Coded (r .answer) → Writes (answerMeant (r .answer)) depth ks ws ks′ ws′ →
+      Walks text (walkerAt doc at depth nothing) (arrays ks ws) r (arrays ks′ ws′)
   walks-by same coded writes =
       let told = walking-told text (walkerAt doc at depth nothing) ks ws in
       let answer = ap (λ (m : Moved). m .answer) same in
@@ -166,12 +170,11 @@ module _ (doc at depth : ℕ) (text ks ws : List ℕ) (r : Stepped) where
         coded = coded;
         position = ap (λ (m : Moved). m .at) same;
         depth = ap (λ (m : Moved). m .depth) same;
-        kinds = writes .kinds ∙ rw answer (sym (told .kinds));
-        words = writes .words ∙ rw answer (sym (told .words));
+        stacked = same-arrays (writes .kinds ∙ rw answer (sym (told .kinds))) (writes .words ∙ rw answer (sym (told .words)));
       }
 
   -- where the walker stays, nothing is written
-  pub stays-by : movedMeant r ≡ movedOf (walking text (walkerAt doc at depth nothing) ks ws) → Still (answerMeant (r .answer)) → Walks text (walkerAt doc at depth nothing) ks ws r ks ws
+  pub stays-by : movedMeant r ≡ movedOf (walking text (walkerAt doc at depth nothing) (arrays ks ws)) → Still (answerMeant (r .answer)) → Walks text (walkerAt doc at depth nothing) (arrays ks ws) r (arrays ks ws)
   stays-by same still = walks-by same (still-coded (r .answer) still) (still-writes (answerMeant (r .answer)) depth ks ws still)
 
 -- a step in the text
@@ -229,12 +232,12 @@ module _ (doc : ℕ) {at depth : ℕ} {text : List ℕ} {top : Lexeme} {ks ws : 
         ∙ sym moved-here
 
   -- a step that was refused, by the text or for want of room on the stack
-  module _ {from : Cursor} {list list′ ks′ ws′ : List ℕ} (f : Fault) (a : from .at ≡ at) (d : from .depth ≡ depth) where
-    pub refused-small : Refuses doc text from list ks ws list′ ks′ ws′ f → (f .start < 2 ^ 48) × (f .end < 2 ^ 48)
+  module _ {from : Cursor} {list words : List ℕ} (f : Fault) (a : from .at ≡ at) (d : from .depth ≡ depth) where
+    pub refused-small : RefusedOnce doc text from list words ks ws f → (f .start < 2 ^ 48) × (f .end < 2 ^ 48)
     refused-small (byText q) = stop-small f (rw (a, d) at q)
     refused-small (byStack k q full number start) = (omega (arith, start, a, can .inside, can .small), found-small k (f .end) (rw (a, d) at q))
 
-    pub refused-on : Refuses doc text from list ks ws list′ ks′ ws′ f → moved (refusedBy (span doc (f .start) (f .end)) (f .number) depth top) at depth ≡ movedBy doc text at depth (placesOf ks ws) top
+    pub refused-on : RefusedOnce doc text from list words ks ws f → moved (refusedBy (span doc (f .start) (f .end)) (f .number) depth top) at depth ≡ movedBy doc text at depth (placesOf ks ws) top
     refused-on (byText q) = stop-on f (rw (a, d) at q)
     refused-on (byStack k q full number start) =
         let s : f .start ≡ at = start ∙ a in

@@ -32,7 +32,7 @@ advanceOf c k e =
     })
 
 -- 30, 31, or 0 where there is room in a stack and a list of so many places
-unfoldable pub fullOf : (stack places : ℕ) → Cursor → (kind : ℕ) → ℕ
-fullOf stack places c k =
+unfoldable pub noRoomOf : (stack places : ℕ) → Cursor → (kind : ℕ) → ℕ
+noRoomOf stack places c k =
     cond (isOpener k && leb stack (c .depth)) StackFull (
     cond (not (isSpace k) && leb places (c .lexemes)) ListFull 0)

@@ -1,9 +1,7 @@
-pub mod ByClass
-pub mod Outcome
-pub mod Words
-pub mod Quotes
+pub mod Mode
 pub mod Cursor
 pub mod Memory
 pub mod Results
+pub mod Going
 pub mod Running
 pub mod Stepping

@@ -5,27 +5,23 @@ use mathlib.Core.Bool.{cond, _&&_}
 use mathlib.Core.Option.{Option, none, some}
 use lib.Dec.{ltb, eqb}
 use lib.ListN.{length, getD}
-use Rattle.rules.specs.Spans.{Span as SpanRule, span, spanOf, Verdict, accepted, refused}
 use Rattle.rules.specs.Refusals.{AnotherDue}
+use Rattle.rules.specs.Spans.{Span as SpanRule, span, spanOf}
+use Rattle.rules.specs.Answers.{Verdict, accepted, refused}
 use Rattle.rules.specs.Lexing.{Lexed as LexedRule, unclosed}
-use Rattle.source.specs.Meaning.{refusalMeant}
-use Rattle.lexer.specs.declared.Answer.{Answer}
-use Rattle.lexer.specs.declared.Answer.the-variants.{Accepted, Refused as RefusedAnswer}
+use Rattle.source.specs.Meaning.{verdictMeant}
+use Rattle.source.specs.declared.Verdict.{Verdict as VerdictWords}
 use Rattle.lexer.specs.declared.Cursor.{Cursor}
-use Rattle.lexer.specs.declared.Fault.{Fault}
+use Rattle.sublexers.specs.declared.Fault.{Fault}
 use Rattle.lexer.specs.declared.Lexed.{Lexed}
-use Rattle.lexer.specs.declared.Ran.{Ran}
-use Rattle.lexer.specs.declared.Ran.the-variants.{Reached, Halted}
-use Rattle.lexer.specs.declared.Step.{Step}
-use Rattle.lexer.specs.declared.Step.the-variants.{Found, Refused}
-
-abbrev pub answerMeant : Answer → Verdict
-answerMeant Accepted = accepted
-answerMeant (RefusedAnswer r) = refused (refusalMeant r)
+use Rattle.lexer.specs.declared.RunEnd.{RunEnd}
+use Rattle.lexer.specs.declared.RunEnd.the-variants.{Reached, Halted}
+use Rattle.sublexers.specs.declared.Step.{Step}
+use Rattle.sublexers.specs.declared.Step.the-variants.{Found, Refused}
 
 abbrev pub lexedMeant : Lexed → LexedRule
 lexedMeant r = record {
-  verdict = answerMeant (r .answer);
+  verdict = verdictMeant (r .answer);
   lexemes = r .lexemes;
   steps = r .steps;
   kept = r .kept;
@@ -34,7 +30,7 @@ lexedMeant r = record {
 }
 
 -- a result with the counts of a cursor
-abbrev pub lexedAt : Answer → Cursor → Lexed
+abbrev pub lexedAt : VerdictWords → Cursor → Lexed
 lexedAt a c = record {
   answer = a;
   lexemes = c .lexemes;
@@ -72,7 +68,7 @@ verdictAt doc c sk sw =
     (countedAt (refused (record { number = unclosed (getD sk (c .depth - 1) 0); at = span doc (c .at) (c .at); note = some (openerAt (c .depth) sw) })) c)
 
 -- where a step was refused
-unfoldable pub refusedBy : Step → Cursor → Ran
+unfoldable pub refusedBy : Step → Cursor → RunEnd
 refusedBy (Refused f) c = Halted c f
 refusedBy (Found m) c = Reached c (m .token)
 
@@ -80,8 +76,8 @@ refusedBy (Found m) c = Reached c (m .token)
 pub record CanAdvance (c : Cursor) (end : ℕ) : Type 0 where
   pub forward : c .at ≤ end
   pub small : end < 2 ^ 48
-  pub steps : c .lexemes + c .spaces ≤ c .at
-  pub dropped : c .dropped ≤ c .at
+  pub steps : c .lexemes + c .spaces < 2 ^ 48
+  pub dropped : c .dropped < 2 ^ 48
   pub depth : c .depth ≤ c .deepest
   pub shallow : c .depth < 2 ^ 63
 
@@ -103,10 +99,10 @@ pub record CanFinish (c : Cursor) (sk sw : List ℕ) : Type 0 where
   pub counts : CanReport c
 
 -- of steps that were refused; those that were not have nothing to report
-abbrev pub CanHalt : Ran → List ℕ → Type 0
+abbrev pub CanHalt : RunEnd → List ℕ → Type 0
 CanHalt (Halted c f) sw = CanStop f c sw
 CanHalt (Reached c t) sw = CanReport c
 
-unfoldable pub haltedWith : (doc : ℕ) → Ran → List ℕ → LexedRule
+unfoldable pub haltedWith : (doc : ℕ) → RunEnd → List ℕ → LexedRule
 haltedWith doc (Halted c f) sw = refusedWith doc f c (noteAt (f .number) (c .depth) sw)
 haltedWith doc (Reached c t) sw = countedAt accepted c

@@ -2,22 +2,23 @@
 use Prim.Native.Nat.{ℕ, _+_, _-_, _*_, _≤_, _<_, _^_}
 use mathlib.Core.Path.{_≡_}
 use mathlib.Core.List.{List}
-use mathlib.Core.Bool.{Bool, false, cond, not, _&&_, _||_}
+use mathlib.Core.Bool.{Bool, cond, not, _&&_, _||_}
 use mathlib.Core.Option.{Option, none, some}
 use lib.Dec.{leb, ltb, eqb}
 use lib.ListN.{length, drop, set}
 use Rattle.rules.specs.Refusals.{AnotherDue, UnclosedFormat, StackFull}
-use Rattle.rules.specs.Spans.{Span, span, low, high, nowhere, Answer, given, refused, refuse}
+use Rattle.rules.specs.Spans.{Span, span, low, high, nowhere}
+use Rattle.rules.specs.Answers.{Answer, given, refused, refuse}
 use Rattle.rules.specs.Kinds.{Nothing, Space, between, isOpener}
 use Rattle.rules.specs.Step.{Step, found, stop, step}
-use Rattle.rules.specs.Lexing.{Lexeme as LexemeRule, lexeme, unclosed, depthAfter, placesOf, lexemesIn}
+use Rattle.rules.specs.Lent.{Lexeme as LexemeRule, lexeme, placesOf, lexemesIn, Arrays}
+use Rattle.rules.specs.Lexing.{unclosed, depthAfter}
 use Rattle.rules.specs.Walker.{Kept, Walker, Walked, walking}
 use Rattle.source.specs.Meaning.{spanMeant, refusalMeant}
 use Rattle.token.specs.Codes.{codeOf}
 use Rattle.list.specs.Entries.{firstOf}
-use Rattle.lexer.specs.declared.Fault.{Fault}
-use Rattle.lexer.specs.declared.Ran.{Ran}
-use Rattle.lexer.specs.declared.Ran.the-variants.{Reached, Halted}
+use Rattle.lexer.specs.declared.RunEnd.{RunEnd}
+use Rattle.lexer.specs.declared.RunEnd.the-variants.{Reached, Halted}
 use Rattle.lexer.specs.declared.StepAnswer.{StepAnswer}
 use Rattle.lexer.specs.declared.StepAnswer.the-variants.{Lexeme, Ended, Refused}
 use Rattle.lexer.specs.declared.Stepped.{Stepped}
@@ -40,14 +41,13 @@ steppedBy a position depth = record { answer = a; position = position; depth = d
 abbrev pub walkerAt : (doc position depth : ℕ) → Kept → Walker
 walkerAt doc position depth kept = record { doc = doc; at = position; depth = depth; kept = kept }
 
--- one step of a walker, of a stack lent in two arrays (ks, ws; afterwards ks′, ws′): the answer, the next position and depth, and both arrays whole are the rule's
-pub record Walks (text : List ℕ) (w : Walker) (ks ws : List ℕ) (r : Stepped) (ks′ ws′ : List ℕ) : Type 0 where
-  pub answer : answerMeant (r .answer) ≡ (walking text w ks ws) .answer
+-- one step of a walker with a stack: the answer, the next position and depth, and the stack whole are the rule's
+pub record Walks (text : List ℕ) (w : Walker) (stack : Arrays) (r : Stepped) (stack′ : Arrays) : Type 0 where
+  pub answer : answerMeant (r .answer) ≡ (walking text w stack) .answer
   pub coded : Coded (r .answer)
-  pub position : r .position ≡ (walking text w ks ws) .walker .at
-  pub depth : r .depth ≡ (walking text w ks ws) .walker .depth
-  pub kinds : ks′ ≡ (walking text w ks ws) .kinds
-  pub words : ws′ ≡ (walking text w ks ws) .words
+  pub position : r .position ≡ (walking text w stack) .walker .at
+  pub depth : r .depth ≡ (walking text w stack) .walker .depth
+  pub stacked : stack′ ≡ (walking text w stack) .stack
 
 -- the answer, the next position and the next depth
 pub record Moved : Type 0 where
@@ -69,8 +69,8 @@ abbrev pub topOf : (depth : ℕ) (kinds words : List ℕ) → LexemeRule
 topOf depth ks ws = cond (eqb depth 0) (lexeme Space nowhere) (firstOf (drop (depth - 1) (lexemesIn ks ws)))
 
 -- "40 with 0-0", by the code of the innermost opener
-abbrev pub astrayBy : List ℕ → (at depth places kind : ℕ) → Bool
-astrayBy text at depth places k = ltb (length text) at || ltb places depth || not (eqb depth 0) && not (isOpener k)
+abbrev pub misplacedBy : List ℕ → (at depth places kind : ℕ) → Bool
+misplacedBy text at depth places k = ltb (length text) at || ltb places depth || not (eqb depth 0) && not (isOpener k)
 
 -- a refusal notes the innermost opener: 24 to 28
 abbrev pub noteBy : (number depth : ℕ) → LexemeRule → Option Span
@@ -130,10 +130,10 @@ pub record CanStep (text : List ℕ) (at depth : ℕ) (top : LexemeRule) (ks ws 
   pub innermost : top ≡ topOf depth ks ws
 
 -- the fault of a step has a span
-abbrev pub CanPack : Ran → Type 0
+abbrev pub CanPack : RunEnd → Type 0
 CanPack (Halted c f) = (f .start < 2 ^ 48) × (f .end < 2 ^ 48)
 CanPack (Reached c t) = Unit {0}
 
-unfoldable pub haltedBy : (doc : ℕ) → Ran → (depth : ℕ) → LexemeRule → Answer (Option LexemeRule)
+unfoldable pub haltedBy : (doc : ℕ) → RunEnd → (depth : ℕ) → LexemeRule → Answer (Option LexemeRule)
 haltedBy doc (Halted c f) depth top = refusedBy (span doc (f .start) (f .end)) (f .number) depth top
 haltedBy doc (Reached c t) depth top = given none

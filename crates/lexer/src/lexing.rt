@@ -7,36 +7,34 @@
 // step into the loop.
 ghost use mathlib.Core.Path.{_≡_};
 ghost use mathlib.Core.Bool.{true, false};
-ghost use Prim.Native.Nat.{_≤_, max, pred};
+ghost use Prim.Native.Nat.{_≤_, pred};
 ghost use lib.ListN.{length};
 ghost use Rattle.rules.specs.Kinds.{Space, isSpace, isOpener, isCloser};
+ghost use Rattle.rules.specs.Lent.{lent};
 ghost use Rattle.rules.specs.Lexing.{Lexes};
 ghost use Rattle.lexer.specs.Cursor.{advanceOf};
 ghost use Rattle.lexer.specs.Results.{lexedMeant, lexedAt, refusedWith, refusedBy, CanAdvance, CanReport, CanStop, CanFinish, CanHalt, noteAt, verdictAt, haltedWith};
-ghost use Rattle.lexer.specs.Memory.{topOf};
-ghost use Rattle.lexer.specs.Quotes.{modeOf};
+ghost use Rattle.lexer.specs.Going.{roomOf, endsAfter, courseOf, stateAt};
+ghost use Rattle.lexer.specs.Mode.{modeOf};
 ghost use Rattle.lexer.specs.Running.{CanRun, Runs, LoneIf, ranFull};
-use crate::Answer;
 use crate::Cursor;
-use crate::Fault;
 use crate::Lexed;
 use crate::Mode;
-use crate::Ran;
-use crate::Step;
+use crate::RunEnd;
 use crate::lent;
 use crate::next;
 use crate::pack;
+use list::Entry;
+use rules::kind;
+use rules::refusal;
 use source::Note;
 use source::Refusal;
+use source::Verdict;
+use sublexers::Fault;
+use sublexers::Step;
 use token::Opened;
 use token::Token;
 use utf8::Checked;
-
-fn greater(a: usize, b: usize) -> usize
-    ensures { λ r. ⌜ r ≡ max a b ⌝ }
-{
-    if a < b { b } else { a }
-}
 
 // The counts after a Space.
 fn past_space(cur: Cursor, end: usize) -> Cursor
@@ -66,7 +64,7 @@ fn past_opener(cur: Cursor, kind: u8, end: usize) -> Cursor
         lexemes: cur.lexemes + 1,
         spaces: cur.spaces,
         dropped: cur.dropped,
-        deepest: greater(cur.deepest, depth),
+        deepest: basics::greater(cur.deepest, depth),
     }
 }
 
@@ -111,7 +109,7 @@ fn past_other(cur: Cursor, kind: u8, end: usize) -> Cursor
     }
 }
 
-fn result(answer: Answer, cur: Cursor) -> Lexed
+fn result(answer: Verdict, cur: Cursor) -> Lexed
     requires { ⌜ CanReport cur ⌝ }
     ensures { λ r. ⌜ r ≡ lexedAt answer cur ⌝ }
 {
@@ -134,10 +132,10 @@ fn stopped(doc: u32, fault: Fault, cur: Cursor, swords: &[u64]) -> Lexed
     let at = pack(doc, fault.start, fault.end);
     let number = fault.number;
     let depth = cur.depth;
-    if (number == 24) & (0 < depth) {
+    if (number == refusal::ANOTHER_DUE) & (0 < depth) {
         let opener = lent::opener(swords, depth);
         return result(
-            Answer::Refused(Refusal {
+            Verdict::Refused(Refusal {
                 number: number,
                 at: at,
                 note: Note::At(opener),
@@ -146,7 +144,7 @@ fn stopped(doc: u32, fault: Fault, cur: Cursor, swords: &[u64]) -> Lexed
         );
     }
     result(
-        Answer::Refused(Refusal {
+        Verdict::Refused(Refusal {
             number: number,
             at: at,
             note: Note::None,
@@ -162,13 +160,13 @@ fn report_unclosed_delimiters(doc: u32, cur: Cursor, skinds: &[u8], swords: &[u6
 {
     let depth = cur.depth;
     if depth == 0 {
-        return result(Answer::Accepted, cur);
+        return result(Verdict::Accepted, cur);
     }
     let number = token::unclosed_number(skinds[depth - 1]);
     let opener = lent::opener(swords, depth);
     let at = pack(doc, cur.at, cur.at);
     result(
-        Answer::Refused(Refusal {
+        Verdict::Refused(Refusal {
             number: number,
             at: at,
             note: Note::At(opener),
@@ -178,23 +176,23 @@ fn report_unclosed_delimiters(doc: u32, cur: Cursor, skinds: &[u8], swords: &[u6
 }
 
 // The steps end at a step that was refused.
-fn refused_step(answer: Step, cur: Cursor) -> Ran
+fn refused_step(answer: Step, cur: Cursor) -> RunEnd
     ensures { λ r. ⌜ r ≡ refusedBy answer cur ⌝ }
 {
     match answer {
-        Step::Refused(fault) => Ran::Halted(cur, fault),
+        Step::Refused(fault) => RunEnd::Halted(cur, fault),
         Step::Found(lexeme) => {
             let token = lexeme.token;
-            Ran::Reached(cur, token)
+            RunEnd::Reached(cur, token)
         }
     }
 }
 
 // The steps end at a lexeme for which there is no room: 30 or 31.
-fn no_room(cur: Cursor, at: usize, end: usize, number: u8) -> Ran
+fn no_room(cur: Cursor, at: usize, end: usize, number: u8) -> RunEnd
     ensures { λ r. ⌜ r ≡ ranFull cur at end number ⌝ }
 {
-    Ran::Halted(
+    RunEnd::Halted(
         cur,
         Fault {
             end: end,
@@ -218,27 +216,48 @@ fn lone_space(text: &[u8], at: usize, stop: usize, mode: Mode) -> bool
     if mode.stop != 0 {
         return false;
     }
-    b' ' < scan::byte_at(text, at + 1)
+    b' ' < basics::byte_at(text, at + 1)
 }
 
-// Takes steps from a cursor on, where `top` is innermost, while it stands before `stop`: one step where `stop` is the next position, all of them where it is the text's end. The mode is kept beside the
+// The places of the list; where none is kept, more than any text has lexemes.
+fn room(listed: bool, kinds: &[u8], words: &[u64]) -> usize
+    ensures { λ r. ⌜ r ≡ roomOf listed (now (kinds .entry)) (now (words .entry)) ⌝ }
+{
+    if listed {
+        return list::places(kinds, words);
+    }
+    0xffff_ffff_ffff_ffff
+}
+
+// Whether the steps end after this opener: a format string's, where they are to end there.
+fn ends_after(to_format: bool, kind: u8) -> bool
+    ensures { λ r. ⌜ r ≡ endsAfter «to_format» kind ⌝ }
+{
+    to_format & ((kind == kind::FORMAT_DOUBLE) | (kind == kind::FORMAT_TRIPLE))
+}
+
+// Takes steps from a cursor on, where `top` is innermost, while it stands before `stop`: one step where `stop` is the next position, all of them where it is the text's end. With `to_format` the steps
+// end after a format string's opener too. Positions are the text's; spans are moved by `shift`. Where nothing is `listed` the list has no end, and its arrays no places. The mode is kept beside the
 // cursor, so that the stack is read after a closer alone.
 pub(crate) fn run(
     doc: u32,
+    shift: usize,
     text: &[u8],
     from: Cursor,
     top: Opened,
     stop: usize,
+    listed: bool,
+    to_format: bool,
     kinds: &mut [u8],
     words: &mut [u64],
     skinds: &mut [u8],
     swords: &mut [u64],
-) -> Ran
-    requires { ⌜ CanRun (now text) from stop (now skinds) (now swords) × topOf (from .depth) (now skinds) top ⌝ }
-    ensures { λ r. ⌜ Runs doc (now (text .entry)) from stop (now (kinds .entry)) (now (words .entry)) (now (skinds .entry)) (now (swords .entry)) r (now (kinds .exit)) (now (words .exit)) (now (skinds .exit)) (now (swords .exit)) ⌝ }
+) -> RunEnd
+    requires { ⌜ CanRun (courseOf doc shift (now text) stop listed «to_format» (now kinds) (now words) (now skinds) (now swords)) (stateAt from Space (now kinds) (now words) (now skinds) (now swords)) top ⌝ }
+    ensures { λ r. ⌜ Runs (courseOf doc shift (now (text .entry)) stop listed «to_format» (now (kinds .entry)) (now (words .entry)) (now (skinds .entry)) (now (swords .entry))) (stateAt from Space (now (kinds .entry)) (now (words .entry)) (now (skinds .entry)) (now (swords .entry))) (now (kinds .exit)) (now (words .exit)) (now (skinds .exit)) (now (swords .exit)) r ⌝ }
 {
-    let places = lent::places(kinds, words);
-    let stack = lent::places(skinds, swords);
+    let places = room(listed, kinds, words);
+    let stack = list::places(skinds, swords);
     let table = token::table();
     let mut mode = next::mode_of(top);
     let mut cur = from;
@@ -252,28 +271,34 @@ pub(crate) fn run(
         let end = lexeme.end;
         let kind = lexeme.kind;
         token = lexeme.token;
-        if kind == 0 {
+        if kind == kind::SPACE {
             cur = past_space(cur, end);
         } else {
-            let span = pack(doc, at, end);
+            let entry = Entry {
+                kind: kind,
+                at: pack(doc, shift + at, shift + end),
+            };
             let place = cur.lexemes;
             if token::opens(kind) {
                 let depth = cur.depth;
                 if stack <= depth {
-                    return no_room(cur, at, end, 30);
+                    return no_room(cur, at, end, refusal::STACK_FULL);
                 }
                 if places <= place {
-                    return no_room(cur, at, end, 31);
+                    return no_room(cur, at, end, refusal::LIST_FULL);
                 }
-                lent::put(kinds, words, place, kind, span);
-                lent::put(skinds, swords, depth, kind, span);
+                list::put(kinds, words, place, entry);
+                list::put(skinds, swords, depth, entry);
                 cur = past_opener(cur, kind, end);
                 mode = next::mode_of(token::opened_by(token));
+                if ends_after(to_format, kind) {
+                    return RunEnd::Reached(cur, token);
+                }
             } else {
                 if places <= place {
-                    return no_room(cur, at, end, 31);
+                    return no_room(cur, at, end, refusal::LIST_FULL);
                 }
-                lent::put(kinds, words, place, kind, span);
+                list::put(kinds, words, place, entry);
                 if token::closes(kind) {
                     cur = past_closer(cur, kind, end);
                     let depth = cur.depth;
@@ -288,17 +313,17 @@ pub(crate) fn run(
             }
         }
     }
-    Ran::Reached(cur, token)
+    RunEnd::Reached(cur, token)
 }
 
 // The result where steps were refused.
-fn halted(doc: u32, ran: Ran, swords: &[u64]) -> Lexed
+fn halted(doc: u32, ran: RunEnd, swords: &[u64]) -> Lexed
     requires { ⌜ CanHalt ran (now swords) ⌝ }
     ensures { λ r. ⌜ lexedMeant r ≡ haltedWith doc ran (now (swords .entry)) ⌝ }
 {
     match ran {
-        Ran::Halted(cur, fault) => stopped(doc, fault, cur, swords),
-        Ran::Reached(cur, _) => result(Answer::Accepted, cur),
+        RunEnd::Halted(cur, fault) => stopped(doc, fault, cur, swords),
+        RunEnd::Reached(cur, _) => result(Verdict::Accepted, cur),
     }
 }
 
@@ -312,7 +337,7 @@ pub fn lex(
     skinds: &mut [u8],
     swords: &mut [u64],
 ) -> Lexed
-    ensures { λ r. ⌜ Lexes doc (now (text .entry)) (now (kinds .entry)) (now (words .entry)) (now (skinds .entry)) (now (swords .entry)) (lexedMeant r) (now (kinds .exit)) (now (words .exit)) (now (skinds .exit)) (now (swords .exit)) ⌝ }
+    ensures { λ r. ⌜ Lexes doc (now (text .entry)) (lent (now (kinds .entry)) (now (words .entry))) (lent (now (skinds .entry)) (now (swords .entry))) (lexedMeant r) (lent (now (kinds .exit)) (now (words .exit))) (lent (now (skinds .exit)) (now (swords .exit))) ⌝ }
 {
     let start = Cursor {
         at: 0,
@@ -322,12 +347,12 @@ pub fn lex(
         dropped: 0,
         deepest: 0,
     };
-    if 0xffff_ffff_ffff < text.len() {
+    if rules::LIMIT < text.len() {
         return stopped(
             doc,
             Fault {
                 end: 0,
-                number: 2,
+                number: refusal::TOO_LONG,
                 start: 0,
             },
             start,
@@ -340,7 +365,7 @@ pub fn lex(
             doc,
             Fault {
                 end: bad,
-                number: 1,
+                number: refusal::NOT_UTF8,
                 start: bad,
             },
             start,
@@ -350,16 +375,19 @@ pub fn lex(
     let nothing = Opened::NoOpener;
     let ran = run(
         doc,
+        0,
         text,
         start,
         nothing,
         text.len(),
+        true,
+        false,
         kinds,
         words,
         skinds,
         swords,
     );
-    let Ran::Reached(cur, _) = ran else {
+    let RunEnd::Reached(cur, _) = ran else {
         return halted(doc, ran, swords);
     };
     report_unclosed_delimiters(doc, cur, skinds, swords)

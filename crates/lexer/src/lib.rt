@@ -3,48 +3,23 @@
 // Licensed under the Apache License, Version 2.0 (the "License"): see NOTICE.
 // From src/lexer.rs of RCL, changed: lexemes and openers go to lent arrays, and an error is a numbered refusal.
 
-// The lexer splits a text into a sequence of tokens. One step, which the modules make up, and `lex` above it.
-mod ident;
-mod in_string;
+// The lexer splits a text into a sequence of tokens. One step (`next`), which the sub-lexers make up, and `lex` above it.
 mod lent;
 mod lexing;
 mod next;
-mod number;
-mod punct;
-mod space;
 mod stepping;
 
-pub use ident::is_keyword;
 pub use lexing::lex;
 pub use stepping::step_at;
 ghost use mathlib.Core.Path.{_≡_};
 ghost use Prim.Native.Nat.{_<_, _^_};
 ghost use Rattle.rules.specs.Spans.{span, low, high};
-ghost use Rattle.token.specs.Codes.{codeOf};
-ghost use Rattle.lexer.specs.Outcome.{lexemeTo, refusedAt, stepMeant};
 use source::Refusal;
 use source::Span;
+use source::Verdict;
+use sublexers::Fault;
 use token::Opened;
 use token::Token;
-
-// What a step found: where it ends, its token, and the token's kind code. `end` comes first here and in a fault, so that both cases of a step share its place in memory.
-pub struct Match {
-    pub end: usize,
-    pub token: Token,
-    pub kind: u8,
-}
-
-// Why a step was refused, and its span.
-pub struct Fault {
-    pub end: usize,
-    pub number: u8,
-    pub start: usize,
-}
-
-pub enum Step {
-    Found(Match),
-    Refused(Fault),
-}
 
 // What the innermost opener makes of the next step: the byte that ends an inner part beside a quote, 0 outside strings, and whether quotes are triple. Both follow from `top`.
 pub struct Mode {
@@ -64,13 +39,13 @@ pub struct Cursor {
 }
 
 // Where steps came to: to the position where they were to end, with the last one's token, or to a step that was refused.
-pub enum Ran {
+pub enum RunEnd {
     Reached(Cursor, Token),
     Halted(Cursor, Fault),
 }
 
-// A lexeme: its token, the token's kind code, so that nobody has to look it up, and its span.
-pub struct Lexeme {
+// A token, its kind code, so that nobody has to look it up, and its span.
+pub struct TokenAt {
     pub token: Token,
     pub kind: u8,
     pub at: Span,
@@ -78,7 +53,7 @@ pub struct Lexeme {
 
 // What a single step answers: a lexeme, a Space included; that the text has ended; or a refusal.
 pub enum StepAnswer {
-    Lexeme(Lexeme),
+    Lexeme(TokenAt),
     Ended,
     Refused(Refusal),
 }
@@ -90,41 +65,14 @@ pub struct Stepped {
     pub depth: usize,
 }
 
-pub enum Answer {
-    Accepted,
-    Refused(Refusal),
-}
-
 // What lexing answers: of the steps that were not refused, how many, how many lexemes, how many bytes of lexemes and of spaces, and the most that was open at once.
 pub struct Lexed {
-    pub answer: Answer,
+    pub answer: Verdict,
     pub lexemes: usize,
     pub steps: usize,
     pub kept: usize,
     pub dropped: usize,
     pub deepest: usize,
-}
-
-// The kind code is given beside the token, so that no step has to look it up.
-pub(crate) fn found(end: usize, token: Token, kind: u8) -> Step
-    requires { ⌜ kind ≡ codeOf token ⌝ }
-    ensures { λ r. ⌜ stepMeant r ≡ lexemeTo (codeOf token) end ⌝ }
-{
-    Step::Found(Match {
-        end: end,
-        token: token,
-        kind: kind,
-    })
-}
-
-pub(crate) fn refused(number: u8, start: usize, end: usize) -> Step
-    ensures { λ r. ⌜ stepMeant r ≡ refusedAt number start end ⌝ }
-{
-    Step::Refused(Fault {
-        end: end,
-        number: number,
-        start: start,
-    })
 }
 
 // The span of two offsets within the limit: no test, since the loop makes one for each lexeme.

@@ -1,17 +1,20 @@
 // One step at a position, given a stack: a turn of the loop of `lex`.
 ghost use mathlib.Core.Path.{_≡_};
+ghost use Rattle.rules.specs.Lent.{arrays};
 ghost use Rattle.rules.specs.Walker.{nothing};
 ghost use Rattle.source.specs.Meaning.{noteMeant, spanMeant};
 ghost use Rattle.list.specs.Entries.{entryMeant};
-ghost use Rattle.lexer.specs.Stepping.{answerMeant, steppedBy, walkerAt, Walks, topOf, astrayBy, noteBy, endBy, haltedBy, StepsOn, CanStep, CanPack};
+ghost use Rattle.lexer.specs.Stepping.{answerMeant, steppedBy, walkerAt, Walks, topOf, misplacedBy, noteBy, endBy, haltedBy, StepsOn, CanStep, CanPack};
 use crate::Cursor;
-use crate::Lexeme;
-use crate::Ran;
+use crate::RunEnd;
 use crate::StepAnswer;
 use crate::Stepped;
+use crate::TokenAt;
 use crate::lexing;
 use crate::pack;
 use list::Entry;
+use rules::kind;
+use rules::refusal;
 use source::Note;
 use source::Refusal;
 use source::Span;
@@ -22,7 +25,7 @@ fn top(skinds: &[u8], swords: &[u64], depth: usize) -> Entry
 {
     if depth == 0 {
         return Entry {
-            kind: 0,
+            kind: kind::SPACE,
             at: Span { low: 0, high: 0 },
         };
     }
@@ -30,8 +33,8 @@ fn top(skinds: &[u8], swords: &[u64], depth: usize) -> Entry
 }
 
 // Whether the position is past the end, the depth above the places, or the innermost code no opener's.
-fn astray(text: &[u8], position: usize, depth: usize, places: usize, kind: u8) -> bool
-    ensures { λ r. ⌜ r ≡ astrayBy (now (text .entry)) position depth places kind ⌝ }
+fn misplaced(text: &[u8], position: usize, depth: usize, places: usize, kind: u8) -> bool
+    ensures { λ r. ⌜ r ≡ misplacedBy (now (text .entry)) position depth places kind ⌝ }
 {
     let other = !token::opens(kind);
     (text.len() < position) | (places < depth) | (depth != 0) & other
@@ -41,7 +44,7 @@ fn astray(text: &[u8], position: usize, depth: usize, places: usize, kind: u8) -
 fn note_of(number: u8, depth: usize, opener: Entry) -> Note
     ensures { λ r. ⌜ noteMeant r ≡ noteBy number depth (entryMeant opener) ⌝ }
 {
-    if (depth != 0) & ((24 <= number) & (number <= 28)) {
+    if (depth != 0) & ((refusal::ANOTHER_DUE <= number) & (number <= refusal::UNCLOSED_FORMAT)) {
         let at = opener.at;
         return Note::At(at);
     }
@@ -65,12 +68,12 @@ fn at_end(at: Span, depth: usize, opener: Entry) -> StepAnswer
 }
 
 // The answer where the step was refused.
-fn refused_step(doc: u32, ran: Ran, depth: usize, opener: Entry) -> StepAnswer
+fn refused_step(doc: u32, ran: RunEnd, depth: usize, opener: Entry) -> StepAnswer
     requires { ⌜ CanPack ran ⌝ }
     ensures { λ r. ⌜ answerMeant r ≡ haltedBy doc ran depth (entryMeant opener) ⌝ }
 {
     match ran {
-        Ran::Halted(_, fault) => {
+        RunEnd::Halted(_, fault) => {
             let number = fault.number;
             let at = pack(doc, fault.start, fault.end);
             let note = note_of(number, depth, opener);
@@ -80,7 +83,7 @@ fn refused_step(doc: u32, ran: Ran, depth: usize, opener: Entry) -> StepAnswer
                 note: note,
             })
         }
-        Ran::Reached(_, _) => StepAnswer::Ended,
+        RunEnd::Reached(_, _) => StepAnswer::Ended,
     }
 }
 
@@ -110,16 +113,19 @@ fn step_on(
     let opened = token::state_of(opener.kind);
     let ran = lexing::run(
         doc,
+        0,
         text,
         from,
         opened,
         position + 1,
+        true,
+        false,
         &mut kinds,
         &mut words,
         skinds,
         swords,
     );
-    let Ran::Reached(cur, token) = ran else {
+    let RunEnd::Reached(cur, token) = ran else {
         return Stepped {
             answer: refused_step(doc, ran, depth, opener),
             position: position,
@@ -128,7 +134,7 @@ fn step_on(
     };
     let end = cur.at;
     let at = pack(doc, position, end);
-    let lexeme = Lexeme {
+    let lexeme = TokenAt {
         token: token,
         kind: kinds[0],
         at: at,
@@ -160,17 +166,17 @@ pub fn step_at(
     skinds: &mut [u8],
     swords: &mut [u64],
 ) -> Stepped
-    ensures { λ r. ⌜ Walks (now (text .entry)) (walkerAt doc position depth nothing) (now (skinds .entry)) (now (swords .entry)) r (now (skinds .exit)) (now (swords .exit)) ⌝ }
+    ensures { λ r. ⌜ Walks (now (text .entry)) (walkerAt doc position depth nothing) (arrays (now (skinds .entry)) (now (swords .entry))) r (arrays (now (skinds .exit)) (now (swords .exit))) ⌝ }
 {
     let start = pack(doc, 0, 0);
-    if 0xffff_ffff_ffff < text.len() {
-        let long = source::refuse(2, start);
+    if rules::LIMIT < text.len() {
+        let long = source::refuse(refusal::TOO_LONG, start);
         return stays(StepAnswer::Refused(long), position, depth);
     }
     let places = list::places(skinds, swords);
     let opener = top(skinds, swords, depth);
-    if astray(text, position, depth, places, opener.kind) {
-        let wrong = source::refuse(40, start);
+    if misplaced(text, position, depth, places, opener.kind) {
+        let wrong = source::refuse(refusal::WRONG_FORM, start);
         return stays(StepAnswer::Refused(wrong), position, depth);
     }
     if text.len() <= position {

@@ -7,7 +7,8 @@ use mathlib.Core.List.{List, [], _∷_}
 use lib.ListN.{length, getD, take, drop, length-take, drop-of-length-le}
 use Rattle.rules.specs.Spans.{nowhere, spanOf}
 use Rattle.rules.specs.Kinds.{Space}
-use Rattle.rules.specs.Lexing.{Lexeme, lexeme, placesOf, lexemesIn}
+use Rattle.rules.specs.Lent.{Lexeme, lexeme, placesOf, lexemesIn}
+use Rattle.rules.proofs.Arithmetic.{suc-double, suc-double-one}
 use Rattle.list.specs.Entries.{firstOf}
 
 -- as many lexemes stand in the arrays as there are places
@@ -39,13 +40,6 @@ from-place n ls i l lt e =
 -- past the last lexeme stands a Space at 0-0
 pub first-past : (ls : List Lexeme) (i : ℕ) → length ls ≤ i → firstOf (drop i ls) ≡ lexeme Space nowhere
 first-past ls i le = rw (drop-of-length-le ls le)
-
--- two words for each place
-suc-double : (n : ℕ) → suc n * 2 ≡ suc (suc (n * 2))
-suc-double n = omega arith
-
-suc-double-one : (n : ℕ) → suc n * 2 + 1 ≡ suc (suc (n * 2 + 1))
-suc-double-one n = omega arith
 
 -- the lexeme at a place has the kind and the span that stand there
 pub lexeme-at : (ks ws : List ℕ) (i : ℕ) → i < placesOf ks ws →

@@ -7,7 +7,7 @@ use lib.Dec.{ltb}
 use lib.ListN.{set}
 use Rattle.rules.specs.Spans.{low, high, nowhere}
 use Rattle.rules.specs.Kinds.{Space}
-use Rattle.rules.specs.Lexing.{Lexeme, lexeme, placesOf}
+use Rattle.rules.specs.Lent.{Lexeme, lexeme, placesOf}
 use Rattle.source.specs.Meaning.{spanMeant}
 use Rattle.list.specs.declared.Entry.{Entry}
 

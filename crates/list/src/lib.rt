@@ -1,8 +1,9 @@
 // A list of lexemes or of parts in two lent arrays: a kind code for each, and the two words of its span. Its places are the smaller of the first length and half the second.
 ghost use mathlib.Core.Path.{_≡_};
 ghost use lib.ListN.{length, take, drop};
-ghost use Rattle.rules.specs.Lexing.{placesOf, lexemesIn};
+ghost use Rattle.rules.specs.Lent.{placesOf, lexemesIn};
 ghost use Rattle.list.specs.Entries.{entryMeant, firstOf, PutAt};
+use rules::kind;
 use source::Span;
 
 pub struct Entry {
@@ -14,9 +15,7 @@ pub struct Entry {
 pub fn places(kinds: &[u8], words: &[u64]) -> usize
     ensures { λ r. ⌜ r ≡ placesOf (now (kinds .entry)) (now (words .entry)) ⌝ }
 {
-    let a = kinds.len();
-    let b = words.len() / 2;
-    if a < b { a } else { b }
+    basics::least(kinds.len(), words.len() / 2)
 }
 
 // Where a list with so many entries ends: "the smaller of its count and its places".
@@ -24,7 +23,7 @@ pub fn end(kinds: &[u8], words: &[u64], count: usize) -> usize
     ensures { λ r. ⌜ r ≡ length (take count (lexemesIn (now (kinds .entry)) (now (words .entry)))) ⌝ }
 {
     let n = places(kinds, words);
-    if count < n { count } else { n }
+    basics::least(count, n)
 }
 
 // The entry at a place; past the places, a Space at 0-0.
@@ -33,7 +32,7 @@ pub fn get(kinds: &[u8], words: &[u64], place: usize) -> Entry
 {
     if places(kinds, words) <= place {
         return Entry {
-            kind: 0,
+            kind: kind::SPACE,
             at: Span { low: 0, high: 0 },
         };
     }

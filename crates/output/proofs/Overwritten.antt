@@ -10,8 +10,9 @@ use lib.ListN.{length, take, drop, length-append, take-append-drop}
 use lib.Seq.{length-take-le, take-length, take-at, drop-at, drop-drop, paste, length-paste}
 use borrow.Author.Tests.{le-leb, lt-leb, leb-true, leb-false}
 use Rattle.rules.specs.Refusals.{OutputFull}
-use Rattle.rules.specs.Spans.{nowhere, limit, accepted, refuse}
-use Rattle.rules.specs.Output.{endOf, overwritten, Chunk, written}
+use Rattle.rules.specs.Spans.{nowhere, limit}
+use Rattle.rules.specs.Answers.{accepted, refuse}
+use Rattle.rules.specs.Output.{endOf, overwritten, Piece, written}
 use Rattle.rules.proofs.Text.{decide}
 use Rattle.output.specs.Places.{Put}
 
@@ -95,13 +96,13 @@ pub put-false : {w : List ℕ} {at : ℕ} {out out′ : List ℕ} → Put w at o
 put-false {w} {at} {out} p = (leb-false (at + length w) (endOf out) (sym (p .whole)), p .output ∙ rw (← p .whole) refl)
 
 -- a chunk that fits, then the others
-pub written-fits : (end at : ℕ) (c : Chunk) (cs : List Chunk) → at + length (c .bytes) ≤ end
+pub written-fits : (end at : ℕ) (c : Piece) (cs : List Piece) → at + length (c .bytes) ≤ end
     → written end at (c ∷ cs) ≡ record { bytes = c .bytes ++ written end (at + length (c .bytes)) cs .bytes; verdict = written end (at + length (c .bytes)) cs .verdict }
 unfolding written
 written-fits end at c cs h = rw (le-leb (at + length (c .bytes)) end h) refl
 
 -- a chunk that does not fit, where nothing is written any more
-pub written-stops : (end at : ℕ) (c : Chunk) (cs : List Chunk) → end < at + length (c .bytes) → written end at (c ∷ cs) ≡ record { bytes = []; verdict = refuse OutputFull (c .at) }
+pub written-stops : (end at : ℕ) (c : Piece) (cs : List Piece) → end < at + length (c .bytes) → written end at (c ∷ cs) ≡ record { bytes = []; verdict = refuse OutputFull (c .at) }
 unfolding written
 written-stops end at c cs h = rw (lt-leb (at + length (c .bytes)) end h) refl
 
@@ -116,15 +117,15 @@ unfolding written
 written-past end at h = rw (lt-leb at end h) refl
 
 -- one chunk that fits
-pub written-one-fits : (end at : ℕ) (c : Chunk) → at + length (c .bytes) ≤ end → written end at (c ∷ []) ≡ record { bytes = c .bytes; verdict = accepted }
+pub written-one-fits : (end at : ℕ) (c : Piece) → at + length (c .bytes) ≤ end → written end at (c ∷ []) ≡ record { bytes = c .bytes; verdict = accepted }
 written-one-fits end at c h = written-fits end at c [] h ∙ rw (written-nothing end (at + length (c .bytes)) h, append-nil (c .bytes)) refl
 
 -- one chunk that does not fit
-pub written-one-not : (end at : ℕ) (c : Chunk) → end < at + length (c .bytes) → written end at (c ∷ []) ≡ record { bytes = []; verdict = refuse OutputFull (c .at) }
+pub written-one-not : (end at : ℕ) (c : Piece) → end < at + length (c .bytes) → written end at (c ∷ []) ≡ record { bytes = []; verdict = refuse OutputFull (c .at) }
 written-one-not end at c h = written-stops end at c [] h
 
 -- what is written ends within the output's end
-pub written-within : (end at : ℕ) (cs : List Chunk) → at ≤ end → at + length (written end at cs .bytes) ≤ end
+pub written-within : (end at : ℕ) (cs : List Piece) → at ≤ end → at + length (written end at cs .bytes) ≤ end
 written-within end at [] h = rw (written-nothing end at h) (omega arith)
 written-within end at (c ∷ cs) h = decide (leb (at + length (c .bytes)) end)
     (λ e. let f = leb-true (at + length (c .bytes)) end e in

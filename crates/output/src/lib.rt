@@ -6,17 +6,13 @@ ghost use lib.Dec.{leb};
 ghost use lib.ListN.{length};
 ghost use Rattle.rules.specs.Output.{endOf, overwritten};
 ghost use Rattle.output.specs.Places.{Put};
+use rules::LIMIT;
 
 // Where an output ends.
 pub fn end(output: &[u8]) -> usize
     ensures { λ r. ⌜ r ≡ endOf (now (output .entry)) ⌝ }
 {
-    let n = output.len();
-    if n < 0xffff_ffff_ffff {
-        n
-    } else {
-        0xffff_ffff_ffff
-    }
+    basics::least(output.len(), LIMIT)
 }
 
 // Whether so many bytes fit at a position before an end.

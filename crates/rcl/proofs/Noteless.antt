@@ -3,20 +3,21 @@ use Prim.Native.Nat.{ℕ, zero, suc, _+_}
 use mathlib.Core.Path.{_≡_, refl, ap}
 use mathlib.Core.Bool.{Bool, true, false, cond}
 use mathlib.Core.List.{List, [], _∷_, _++_}
-use mathlib.Core.Option.{Option, none, some}
-use lib.Dec.{leb, ltb}
+use lib.Dec.{leb}
 use lib.ListN.{length, take}
 use Rattle.rules.specs.Utf8.{encode}
 use Rattle.rules.specs.Refusals.{BadSpan, ListFull, OutputFull, NoString}
-use Rattle.rules.specs.Spans.{Span, span, limit, nowhere, Refusal, Answer, given, refused, refuse, isBad, resolved, Verdict, accepted}
+use Rattle.rules.specs.Spans.{Span, span, nowhere, isBad}
+use Rattle.rules.specs.Answers.{Refusal, Answer, given, refused, refuse, Verdict, accepted, verdictOn, andThen, firstRefusal, unlessRefused}
+use Rattle.rules.specs.Source.{resolved}
 use Rattle.rules.specs.Kinds.{isQuoteOpen, isEscape}
-use Rattle.rules.specs.Lexing.{Lexeme, placesOf, lexemesIn}
-use Rattle.rules.specs.Output.{endOf, Chunk, chunk, Written, written, overwritten}
-use Rattle.rules.specs.Escapes.{singleScalar, unicodeScalar, scalarOf, escapeScalar, verdictOn, wroteAll, scalarPut, unescape}
-use Rattle.rules.specs.Parts.{Turn, closes, refuses, passes, yields, Parts, noParts, followTurn, turn, partsFrom, partsOf, inRoom, lexemesFrom, partsIn, partsCall}
-use Rattle.rules.specs.Indent.{andThen, firstRefusal, partVerdict, indentOf, indentCall}
-use Rattle.rules.specs.Value.{valueChunks, isUnbroken, Where, inText, inOutput, textPart, outputPart, Valued, unlessRefused, escapeVerdict, valueWritten, kindOfFirst, indentTaken, valueOf, valueCall, handedPart, handCheck}
-use Rattle.rcl.specs.Strings.{withoutNote}
+use Rattle.rules.specs.Lent.{Lexeme, placesOf, lexemesIn, lexemesFrom, arrays}
+use Rattle.rules.specs.Output.{endOf, Piece, piece, Written, written, overwritten}
+use Rattle.rules.specs.Escapes.{singleScalar, unicodeScalar, scalarOf, escapeScalar, wroteAll, scalarPut, unescape}
+use Rattle.rules.specs.Parts.{Effect, closes, refuses, passes, yields, Parts, noParts, followEffect, effect, partsFrom, partsOf, inRoom, partsIn, partsCall}
+use Rattle.rules.specs.Indent.{partVerdict, indentOf, indentCall}
+use Rattle.rules.specs.Value.{valuePieces, isUnbroken, Held, inText, inOutput, textPart, outputPart, Valued, escapeVerdict, valueWritten, kindOfFirst, indentTaken, valueOf, valueCall, handedPart, handCheck}
+use Rattle.words.specs.Strings.{withoutNote}
 
 -- an answer whose refusal has no note
 pub record Noteless {A : Type 0} (a : Answer A) : Type 0 where
@@ -71,7 +72,7 @@ note-first f [] h = note-given tt
 note-first f (p ∷ ps) h = note-then (f p) (firstRefusal f ps) (h p) (note-first f ps h)
 
 -- writing
-note-written : (end at : ℕ) (cs : List Chunk) → Noteless (written end at cs .verdict)
+note-written : (end at : ℕ) (cs : List Piece) → Noteless (written end at cs .verdict)
 unfolding written
 note-written end at [] = note-cond (leb at end) accepted (refuse OutputFull nowhere) (note-given tt) (note-refuse OutputFull nowhere)
 note-written end at (c ∷ cs) =
@@ -89,8 +90,8 @@ note-put : (s : Span) (out : List ℕ) (at : ℕ) (a : Answer ℕ) → Noteless 
 unfolding scalarPut
 note-put s out at (refused r) p = p
 note-put s out at (given u) p =
-    let w = written (endOf out) at (chunk (encode u) s ∷ []) in
-    note-wrote (length (w .bytes)) (w .verdict) (note-written (endOf out) at (chunk (encode u) s ∷ []))
+    let w = written (endOf out) at (piece (encode u) s ∷ []) in
+    note-wrote (length (w .bytes)) (w .verdict) (note-written (endOf out) at (piece (encode u) s ∷ []))
 
 pub note-unescape : (text : List ℕ) (s : Span) (k : ℕ) (out : List ℕ) (at : ℕ) → Noteless (unescape text s k out at .answer)
 unfolding unescape
@@ -101,7 +102,7 @@ note-part : (text : List ℕ) (p : Lexeme) → Noteless (partVerdict text p)
 unfolding partVerdict
 note-part text p = search (note-cond, note-given, note-refuse) depth 40
 
-pub note-indent : (text ks ws : List ℕ) (n : ℕ) → Noteless (indentCall text ks ws n)
+pub note-indent : (text ks ws : List ℕ) (n : ℕ) → Noteless (indentCall text (arrays ks ws) n)
 unfolding indentCall
 note-indent text ks ws n =
     let ps = take n (lexemesIn ks ws) in
@@ -110,9 +111,9 @@ note-indent text ks ws n =
 -- parts
 note-from : (place depth : ℕ) (hole : Span) (ls : List Lexeme) → Noteless (partsFrom place depth hole ls .answer)
 note-from place depth hole [] = note-refuse NoString nowhere
-note-from place depth hole (l ∷ ls) = followed (turn depth hole l) (λ d h. note-from (suc place) d h ls)
+note-from place depth hole (l ∷ ls) = followed (effect depth hole l) (λ d h. note-from (suc place) d h ls)
   where
-    followed : (t : Turn) → ((d : ℕ) (h : Span) → Noteless (partsFrom (suc place) d h ls .answer)) → Noteless (followTurn t place (λ d h. partsFrom (suc place) d h ls) .answer)
+    followed : (t : Effect) → ((d : ℕ) (h : Span) → Noteless (partsFrom (suc place) d h ls .answer)) → Noteless (followEffect t place (λ d h. partsFrom (suc place) d h ls) .answer)
     followed closes more = note-given place
     followed (refuses n s) more = note-refuse n s
     followed (passes d h) more = more d h
@@ -136,9 +137,9 @@ pub note-in : (room place : ℕ) (ls : List Lexeme) → Noteless (partsIn room p
 unfolding partsIn
 note-in room place ls = note-room room (partsOf place ls .found) (partsOf place ls .answer) (note-of place ls)
 
-pub note-parts : (ks ws : List ℕ) (count place : ℕ) (pks pws : List ℕ) → Noteless (partsCall ks ws count place pks pws .answer)
+pub note-parts : (ks ws : List ℕ) (count place : ℕ) (pks pws : List ℕ) → Noteless (partsCall (arrays ks ws) count place (arrays pks pws) .answer)
 unfolding partsCall
-note-parts ks ws count place pks pws = note-in (placesOf pks pws) place (lexemesFrom ks ws count place)
+note-parts ks ws count place pks pws = note-in (placesOf pks pws) place (lexemesFrom (arrays ks ws) count place)
 
 -- values
 note-escape : (text : List ℕ) (p : Lexeme) → Noteless (escapeVerdict text p)
@@ -153,12 +154,12 @@ note-output at n (refused r) p = note-passed {A = Unit {0}} r p
 note-value-written : (text : List ℕ) (indent : ℕ) (ps : List Lexeme) (out : List ℕ) (at : ℕ) → Noteless (valueWritten text indent ps out at .answer)
 unfolding valueWritten
 note-value-written text indent ps out at =
-    let w = written (endOf out) at (valueChunks text indent ps) in
+    let w = written (endOf out) at (valuePieces text indent ps) in
     note-of-cond (λ (v : Valued). v .answer) (isUnbroken text indent ps) (record { answer = given (textPart ps); output = out })
     (record { answer = outputPart at (length (w .bytes)) (w .verdict); output = overwritten out at (w .bytes) })
-    (note-given (textPart ps)) (note-output at (length (w .bytes)) (w .verdict) (note-written (endOf out) at (valueChunks text indent ps)))
+    (note-given (textPart ps)) (note-output at (length (w .bytes)) (w .verdict) (note-written (endOf out) at (valuePieces text indent ps)))
 
-note-unless : (v : Verdict) (out : List ℕ) (w : Valued) → Noteless v → Noteless (w .answer) → Noteless (unlessRefused v out w .answer)
+note-unless : (v : Verdict) (out : List ℕ) (w : Valued) → Noteless v → Noteless (w .answer) → Noteless (unlessRefused v (λ r. record { answer = refused r; output = out }) w .answer)
 note-unless (given u) out w p q = q
 note-unless (refused r) out w p q = note-passed {A = Unit {0}} r p
 
@@ -174,10 +175,10 @@ note-value-of text ls p out at h =
     (note-then inside escapes (note-first (partVerdict text) ps (note-part text)) (note-first (escapeVerdict text) ps (note-escape text))))
     (note-value-written text indent ps out at)
 
-pub note-value : (text ks ws : List ℕ) (count place : ℕ) (pks pws out : List ℕ) (at : ℕ) → Noteless (valueCall text ks ws count place pks pws out at .answer)
+pub note-value : (text ks ws : List ℕ) (count place : ℕ) (pks pws out : List ℕ) (at : ℕ) → Noteless (valueCall text (arrays ks ws) count place (arrays pks pws) out at .answer)
 unfolding valueCall
 note-value text ks ws count place pks pws out at =
-    let ls = lexemesFrom ks ws count place in
+    let ls = lexemesFrom (arrays ks ws) count place in
     let p = partsIn (placesOf pks pws) place ls in
     note-value-of text ls p out at (note-in (placesOf pks pws) place ls)
 
@@ -186,10 +187,10 @@ note-resolved : (text : List ℕ) (s : Span) → Noteless (resolved text s)
 unfolding resolved
 note-resolved text s = search (note-cond, note-given, note-refuse) depth 40
 
-note-handed : (text out : List ℕ) (p : Where) → Noteless (handedPart text out p)
+note-handed : (text out : List ℕ) (p : Held) → Noteless (handedPart text out p)
 unfolding handedPart
 note-handed text out (inText a e) = note-resolved text (span 0 a e)
 note-handed text out (inOutput a e) = note-resolved out (span 0 a e)
 
-pub note-hand : (text out : List ℕ) (p : Where) → Noteless (handCheck text out p)
+pub note-hand : (text out : List ℕ) (p : Held) → Noteless (handCheck text out p)
 note-hand text out p = note-verdict (handedPart text out p) (note-handed text out p)

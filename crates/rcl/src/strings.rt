@@ -1,26 +1,17 @@
-// Identifiers, escapes, indent, parts and values of strings.
+// Identifiers, keywords, escapes, indent, parts and values of strings.
 ghost use mathlib.Core.Path.{_≡_};
+ghost use Rattle.rules.specs.Lent.{arrays};
 ghost use Rattle.rules.specs.Names.{isIdentifier, isKeyword};
-ghost use Rattle.rules.specs.Spans.{spanOf, given};
+ghost use Rattle.rules.specs.Spans.{spanOf};
 ghost use Rattle.rules.specs.Escapes.{escapeScalar, Unescapes};
 ghost use Rattle.rules.specs.Parts.{ListsParts};
 ghost use Rattle.rules.specs.Indent.{indentCall};
-ghost use Rattle.rules.specs.Value.{inText, inOutput, Values};
-ghost use Rattle.source.specs.Meaning.{refusalMeant};
-ghost use Rattle.cst.specs.Meaning.{closerMeant};
-ghost use Rattle.value.specs.Meaning.{whereMeant, answerMeant as valueMeant};
-ghost use Rattle.rcl.specs.Strings.{answerMeant, canonicalAnswer, partedMeant, canonicalParted, valuedMeant, canonicalValued, PartedAs, ValuedAs, refusalIn, withoutNote};
-use crate::AnswerWords;
-use crate::PartedWords;
-use crate::ValuedWords;
-use cst::Closer;
-use source::Refusal;
+ghost use Rattle.rules.specs.Value.{Values};
+ghost use Rattle.words.specs.Strings.{answerIn, canonicalAnswer, closerIn, canonicalParted, valueIn, canonicalValued};
 use source::Span;
-use string::Decoded;
-use string::Indented;
-use string::Unescaped;
-use value::Answer;
-use value::Where;
+use words::AnswerWords;
+use words::PartedWords;
+use words::ValuedWords;
 
 // Whether bytes are an identifier.
 #[no_mangle]
@@ -35,40 +26,13 @@ pub extern "C" fn rcl_is_identifier(bytes: &[u8]) -> bool
 pub extern "C" fn rcl_is_keyword(bytes: &[u8]) -> bool
     ensures { λ r. ⌜ r ≡ isKeyword (now (bytes .entry)) ⌝ }
 {
-    lexer::is_keyword(bytes)
-}
-
-pub(crate) fn answered(count: u64) -> AnswerWords
-    ensures { λ r. ⌜ answerMeant r ≡ given count ⌝ }
-    ensures { λ r. ⌜ r ≡ canonicalAnswer r ⌝ }
-{
-    AnswerWords {
-        refused: 0,
-        number: 0,
-        low: 0,
-        high: 0,
-        count: count,
-    }
-}
-
-pub(crate) fn not_answered(refusal: Refusal) -> AnswerWords
-    ensures { λ r. ⌜ answerMeant r ≡ refusalIn (refusalMeant refusal) ⌝ }
-    ensures { λ r. ⌜ r ≡ canonicalAnswer r ⌝ }
-{
-    let at = refusal.at;
-    AnswerWords {
-        refused: 1,
-        number: refusal.number as u64,
-        low: at.low,
-        high: at.high,
-        count: 0,
-    }
+    sublexers::is_keyword(bytes)
 }
 
 // The scalar value of an escape sequence.
 #[no_mangle]
 pub extern "C" fn rcl_scalar_value(text: &[u8], low: u64, high: u64, kind: u8) -> AnswerWords
-    ensures { λ r. ⌜ answerMeant r ≡ escapeScalar (now (text .entry)) (spanOf low high) kind ⌝ }
+    ensures { λ r. ⌜ answerIn r ≡ escapeScalar (now (text .entry)) (spanOf low high) kind ⌝ }
     ensures { λ r. ⌜ r ≡ canonicalAnswer r ⌝ }
 {
     let span = Span {
@@ -76,10 +40,7 @@ pub extern "C" fn rcl_scalar_value(text: &[u8], low: u64, high: u64, kind: u8) -
         high: high,
     };
     let answer = string::scalar_value(text, span, kind);
-    match answer {
-        Decoded::Scalar(u) => answered(u as u64),
-        Decoded::Refused(refusal) => not_answered(refusal),
-    }
+    words::decoded(answer)
 }
 
 // Writes it to an output, whole or not.
@@ -92,7 +53,7 @@ pub extern "C" fn rcl_unescape_into(
     output: &mut [u8],
     position: usize,
 ) -> AnswerWords
-    ensures { λ r. ⌜ Unescapes (now (text .entry)) (spanOf low high) kind (now (output .entry)) position (answerMeant r) (now (output .exit)) ⌝ }
+    ensures { λ r. ⌜ Unescapes (now (text .entry)) (spanOf low high) kind (now (output .entry)) position (answerIn r) (now (output .exit)) ⌝ }
     ensures { λ r. ⌜ r ≡ canonicalAnswer r ⌝ }
 {
     let span = Span {
@@ -100,10 +61,7 @@ pub extern "C" fn rcl_unescape_into(
         high: high,
     };
     let answer = string::unescape_into(text, span, kind, output, position);
-    match answer {
-        Unescaped::Bytes(n) => answered(n as u64),
-        Unescaped::Refused(refusal) => not_answered(refusal),
-    }
+    words::unescaped(answer)
 }
 
 // The indent of a parts list.
@@ -114,40 +72,11 @@ pub extern "C" fn rcl_count_common_leading_spaces(
     words: &[u64],
     count: usize,
 ) -> AnswerWords
-    ensures { λ r. ⌜ answerMeant r ≡ indentCall (now (text .entry)) (now (kinds .entry)) (now (words .entry)) count ⌝ }
+    ensures { λ r. ⌜ answerIn r ≡ indentCall (now (text .entry)) (arrays (now (kinds .entry)) (now (words .entry))) count ⌝ }
     ensures { λ r. ⌜ r ≡ canonicalAnswer r ⌝ }
 {
     let answer = string::count_common_leading_spaces(text, kinds, words, count);
-    match answer {
-        Indented::Spaces(n) => answered(n as u64),
-        Indented::Refused(refusal) => not_answered(refusal),
-    }
-}
-
-fn parted(closer: Closer, parts: usize) -> PartedWords
-    ensures { λ r. ⌜ PartedAs (withoutNote (closerMeant closer)) parts r ⌝ }
-{
-    match closer {
-        Closer::At(place) => PartedWords {
-            refused: 0,
-            number: 0,
-            low: 0,
-            high: 0,
-            closer: place as u64,
-            parts: parts as u64,
-        },
-        Closer::Refused(refusal) => {
-            let at = refusal.at;
-            PartedWords {
-                refused: 1,
-                number: refusal.number as u64,
-                low: at.low,
-                high: at.high,
-                closer: 0,
-                parts: parts as u64,
-            }
-        }
-    }
+    words::indented(answer)
 }
 
 // Lists the parts of a string.
@@ -160,76 +89,11 @@ pub extern "C" fn rcl_parts(
     pkinds: &mut [u8],
     pwords: &mut [u64],
 ) -> PartedWords
-    ensures { λ r. ⌜ ListsParts (now (kinds .entry)) (now (words .entry)) count place (now (pkinds .entry)) (now (pwords .entry)) (partedMeant r) (r .parts) (now (pkinds .exit)) (now (pwords .exit)) ⌝ }
+    ensures { λ r. ⌜ ListsParts (arrays (now (kinds .entry)) (now (words .entry))) count place (arrays (now (pkinds .entry)) (now (pwords .entry))) (closerIn r) (r .parts) (arrays (now (pkinds .exit)) (now (pwords .exit))) ⌝ }
     ensures { λ r. ⌜ r ≡ canonicalParted r ⌝ }
 {
     let r = cst::parts(kinds, words, count, place, pkinds, pwords);
-    let closer = r.answer;
-    parted(closer, r.parts)
-}
-
-fn in_text(start: usize, end: usize, parts: usize) -> ValuedWords
-    ensures { λ r. ⌜ ValuedAs (given (inText start end)) parts r ⌝ }
-{
-    ValuedWords {
-        refused: 0,
-        number: 0,
-        low: 0,
-        high: 0,
-        output: 0,
-        start: start as u64,
-        end: end as u64,
-        parts: parts as u64,
-    }
-}
-
-fn in_output(start: usize, end: usize, parts: usize) -> ValuedWords
-    ensures { λ r. ⌜ ValuedAs (given (inOutput start end)) parts r ⌝ }
-{
-    ValuedWords {
-        refused: 0,
-        number: 0,
-        low: 0,
-        high: 0,
-        output: 1,
-        start: start as u64,
-        end: end as u64,
-        parts: parts as u64,
-    }
-}
-
-fn no_value(refusal: Refusal, parts: usize) -> ValuedWords
-    ensures { λ r. ⌜ ValuedAs (refusalIn (refusalMeant refusal)) parts r ⌝ }
-{
-    let at = refusal.at;
-    ValuedWords {
-        refused: 1,
-        number: refusal.number as u64,
-        low: at.low,
-        high: at.high,
-        output: 0,
-        start: 0,
-        end: 0,
-        parts: parts as u64,
-    }
-}
-
-fn found(held: Where, parts: usize) -> ValuedWords
-    ensures { λ r. ⌜ ValuedAs (given (whereMeant held)) parts r ⌝ }
-{
-    match held {
-        Where::Text(start, end) => in_text(start, end, parts),
-        Where::Output(start, end) => in_output(start, end, parts),
-    }
-}
-
-fn valued(answer: Answer, parts: usize) -> ValuedWords
-    ensures { λ r. ⌜ ValuedAs (withoutNote (valueMeant answer)) parts r ⌝ }
-{
-    match answer {
-        Answer::Found(held) => found(held, parts),
-        Answer::Refused(refusal) => no_value(refusal, parts),
-    }
+    words::parted(r)
 }
 
 // The value of a string.
@@ -245,7 +109,7 @@ pub extern "C" fn rcl_value(
     output: &mut [u8],
     position: usize,
 ) -> ValuedWords
-    ensures { λ r. ⌜ Values (now (text .entry)) (now (kinds .entry)) (now (words .entry)) count place (now (pkinds .entry)) (now (pwords .entry)) (now (output .entry)) position (valuedMeant r) (r .parts) (now (pkinds .exit)) (now (pwords .exit)) (now (output .exit)) ⌝ }
+    ensures { λ r. ⌜ Values (now (text .entry)) (arrays (now (kinds .entry)) (now (words .entry))) count place (arrays (now (pkinds .entry)) (now (pwords .entry))) (now (output .entry)) position (valueIn r) (r .parts) (arrays (now (pkinds .exit)) (now (pwords .exit))) (now (output .exit)) ⌝ }
     ensures { λ r. ⌜ r ≡ canonicalValued r ⌝ }
 {
     let r = value::value(
@@ -259,6 +123,5 @@ pub extern "C" fn rcl_value(
         output,
         position,
     );
-    let answer = r.answer;
-    valued(answer, r.parts)
+    words::valued(r)
 }

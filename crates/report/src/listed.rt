@@ -4,14 +4,10 @@ ghost use lib.ListN.{length};
 use crate::input;
 use crate::input::Input;
 use crate::print;
-use lexer::Answer;
 use lexer::Lexed;
 use libc::STDOUT_FILENO;
 use source::Span;
-
-fn wide(b: u8) -> u64 {
-    b as u64
-}
+use source::Verdict;
 
 fn print_number(n: u64) -> bool {
     io::print_decimal(STDOUT_FILENO, n)
@@ -20,10 +16,10 @@ fn print_number(n: u64) -> bool {
 // "Sizes first: bytes, lexemes, deepest, steps, dropped bytes".
 fn print_sizes(bytes: usize, lexed: Lexed) -> bool {
     print_number(bytes as u64)
-        && print::print_next(STDOUT_FILENO, lexed.lexemes as u64)
-        && print::print_next(STDOUT_FILENO, lexed.deepest as u64)
-        && print::print_next(STDOUT_FILENO, lexed.steps as u64)
-        && print::print_next(STDOUT_FILENO, lexed.dropped as u64)
+        && printing::print_next(STDOUT_FILENO, lexed.lexemes as u64)
+        && printing::print_next(STDOUT_FILENO, lexed.deepest as u64)
+        && printing::print_next(STDOUT_FILENO, lexed.steps as u64)
+        && printing::print_next(STDOUT_FILENO, lexed.dropped as u64)
         && print::end_line(STDOUT_FILENO)
 }
 
@@ -33,7 +29,7 @@ fn separate(place: usize) -> bool {
 }
 
 fn print_kind(place: usize, kind: u8) -> bool {
-    separate(place) && print_number(wide(kind))
+    separate(place) && print_number(basics::wide(kind))
 }
 
 // The kind codes of the first lexemes of a list, on one line.
@@ -79,13 +75,13 @@ fn list_text(text: &[u8]) {
     let lexed = lexer::lex(0, text, &mut kinds, &mut words, &mut skinds, &mut swords);
     let answer = lexed.answer;
     match answer {
-        Answer::Accepted => {
+        Verdict::Accepted => {
             let written = print_sizes(text.len(), lexed)
                 && print_kinds(&kinds, &words, lexed.lexemes)
                 && print_spans(&kinds, &words, lexed.lexemes);
             print::finish(STDOUT_FILENO, written);
         }
-        Answer::Refused(refusal) => print::refuse(STDOUT_FILENO, refusal),
+        Verdict::Refused(refusal) => print::refuse(STDOUT_FILENO, refusal),
     }
 }
 

@@ -1,21 +1,17 @@
-// Numbers and refusals, written to a descriptor `to`, and what is told where something cannot be read or written. Each function that writes a piece of an answer says whether it could; after one
+// Refusals, written to a descriptor `to`, and what is told where something cannot be read or written. Each function that writes a piece of an answer says whether it could; after one
 // that could not, nothing more of the answer is written.
 use libc::STDERR_FILENO;
+use rules::refusal;
 use source::Note;
 use source::Refusal;
 use source::Span;
-
-// A number in decimal, a space before it.
-pub(crate) fn print_next(to: i32, n: u64) -> bool {
-    io::write_all(to, b" ") && io::print_decimal(to, n)
-}
 
 pub(crate) fn end_line(to: i32) -> bool {
     io::write_all(to, b"\n")
 }
 
 fn print_offsets(to: i32, span: Span) -> bool {
-    print_next(to, span.start() as u64) && print_next(to, span.end() as u64)
+    printing::print_next(to, span.start() as u64) && printing::print_next(to, span.end() as u64)
 }
 
 fn print_note(to: i32, note: Note) -> bool {
@@ -30,7 +26,7 @@ fn print_refusal(to: i32, refusal: Refusal) -> bool {
     let at = refusal.at;
     let note = refusal.note;
     io::write_all(to, b"refused")
-        && print_next(to, refusal.number as u64)
+        && printing::print_next(to, refusal.number as u64)
         && print_offsets(to, at)
         && print_note(to, note)
         && end_line(to)
@@ -60,5 +56,5 @@ pub(crate) fn refuse(to: i32, refusal: Refusal) {
 
 // Of a text over the program's limit: refusal 2, at 0-0.
 pub(crate) fn refuse_over(to: i32) {
-    refuse(to, source::refuse(2, source::nowhere()));
+    refuse(to, source::refuse(refusal::TOO_LONG, source::nowhere()));
 }

@@ -5,8 +5,8 @@ ghost use lib.ListN.{length};
 use crate::input;
 use crate::input::Input;
 use crate::print;
-use lexer::Answer;
 use libc::STDOUT_FILENO;
+use source::Verdict;
 
 // Room for the longest text and a byte more, by which a longer one is known. Of this and the rooms below only the length is said, so that nothing computes with so many places.
 fn text_room() -> [u8; 65537]
@@ -55,10 +55,10 @@ fn tidy_text(text: &[u8], refusals: i32) {
     let lexed = tidied.lexed;
     let answer = lexed.answer;
     match answer {
-        Answer::Accepted => {
+        Verdict::Accepted => {
             print::finish(STDOUT_FILENO, print_first(&output, tidied.written));
         }
-        Answer::Refused(refusal) => print::refuse(refusals, refusal),
+        Verdict::Refused(refusal) => print::refuse(refusals, refusal),
     }
 }
 

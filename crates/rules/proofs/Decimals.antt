@@ -17,7 +17,7 @@ use Rattle.rules.specs.Spans.{limit}
 use Rattle.rules.specs.Kinds.{NumDecimal, Nothing, isQuoteOpen, isOpener, isCloser}
 use Rattle.rules.specs.Step.{Step, found, stop, isDigitOrUnderscore, intLength, exponentMark, exponent, fraction, decimal, prefixed, number, keywordOrIdent, identifier, whitespace, closer, monograph, punctuation, outside, unicodeDelim, unicode4, singleEscape, inside, step}
 use Rattle.rules.specs.Decimals.{DIGIT, digit1-9, Digits, none as no-digit, more, Digits1, some as digits, Int, zero as int-zero, nonzero, Frac, no-frac, frac, E, lower, upper, Sign, no-sign, minus, plus, Exp, no-exp, exp, Unsigned, unsigned, withoutUnderscores}
-use Rattle.rules.specs.Lexing.{piece, ended, ends, openAfter, traceFrom, trace}
+use Rattle.rules.specs.Lexing.{taken, ended, ends, openAfter, traceFrom, trace}
 use Rattle.rules.proofs.Text.{decide, branch, either, is-code, is-another, starts-append, run-append, run-all, all-append, keep-append}
 
 -- Digits. A digit is no other byte
@@ -258,12 +258,12 @@ trace-skip [] = refl
 trace-skip (b ∷ s) = trace-skip s
 
 number-trace : (b : ℕ) (s : List ℕ) → DIGIT b → number (b ∷ s) ≡ found NumDecimal (length (b ∷ s))
-    → traceFrom [] 0 (b ∷ s) ≡ record { pieces = piece NumDecimal (b ∷ s) ∷ []; end = ended }
+    → traceFrom [] 0 (b ∷ s) ≡ record { taken = taken NumDecimal (b ∷ s) ∷ []; end = ended }
 unfolding traceFrom openAfter isOpener isCloser
 number-trace b s d e = rw (step-digit b s d, e, take-length s, trace-skip s)
 
 -- RFC 8259's int [ frac ] [ exp ] alone is one lexeme NumDecimal
-pub decimal-alone : (w : List ℕ) → Unsigned w → traceFrom [] 0 w ≡ record { pieces = piece NumDecimal w ∷ []; end = ended }
+pub decimal-alone : (w : List ℕ) → Unsigned w → traceFrom [] 0 w ≡ record { taken = taken NumDecimal w ∷ []; end = ended }
 decimal-alone w (unsigned int-zero f e) = number-trace (code "0") _ refl (number-alone int-zero (both f e))
 decimal-alone w (unsigned (nonzero {b = b} d ds) f e) = number-trace b _ (nonzero-digit b d) (number-alone (nonzero d ds) (both f e))
 
@@ -308,6 +308,6 @@ unsigned-ascii : {w : List ℕ} → Unsigned w → all isAscii w ≡ true
 unsigned-ascii (unsigned {i = i} {f = f} {e = e} x y z) = all-append isAscii i (f ++ e) (int-ascii x) (all-append isAscii f e (frac-ascii y) (exp-ascii z))
 
 -- the same with the checks of UTF-8 and of the text's length
-pub decimal-alone-trace : (w : List ℕ) → Unsigned w → length w ≤ limit → trace w ≡ record { pieces = piece NumDecimal w ∷ []; end = ended }
+pub decimal-alone-trace : (w : List ℕ) → Unsigned w → length w ≤ limit → trace w ≡ record { taken = taken NumDecimal w ∷ []; end = ended }
 unfolding trace
 decimal-alone-trace w u h = rw (le-ltb limit (length w) h, ascii-good w (unsigned-ascii u)) (decimal-alone w u)

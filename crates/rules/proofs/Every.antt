@@ -1,14 +1,11 @@
 -- One computed test over all the numbers below a bound, or over all the entries of a list, proves its rule at each of them: by induction on the bound.
 use Prim.Native.Nat.{ℕ, zero, suc, _<_}
-use mathlib.Core.Path.{_≡_, refl}
+use mathlib.Core.Path.{_≡_}
 use mathlib.Core.Bool.{Bool, true, false, not, _&&_, _||_, false≢true}
 use mathlib.Core.List.{List}
 use native.Mathlib.Omega.{arith}
 use lib.ListN.{length, getD}
-
-both : (a b : Bool) → (a && b) ≡ true → (a ≡ true) × (b ≡ true)
-both true b h = (refl, h)
-both false b h = absurd (false≢true h)
+use Rattle.rules.proofs.Text.{both}
 
 -- every number below `n` passes the test
 abbrev pub allBelow : ℕ → (ℕ → Bool) → Bool

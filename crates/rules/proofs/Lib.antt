@@ -2,6 +2,8 @@
 
 -- what is read off the front of a text
 pub mod Text
+-- the places of the two words of an entry
+pub mod Arithmetic
 -- one computed test over all entries of a table, over all bytes or kinds
 pub mod Every
 -- runs of bytes by position, as a loop meets them
@@ -19,6 +21,12 @@ pub mod Decimals
 pub mod Trace
 -- lexemes in lent arrays, read back
 pub mod Listed
+-- the steps of any text, in any lent memory, are a front of it
+pub mod Front
+-- lent memory is taken by lexemes alone
+pub mod SpacesAside
+-- what is listed shows the lexemes
+pub mod Listing
 -- the marked pairs and the worked texts
 pub mod Computes
 pub mod Marked

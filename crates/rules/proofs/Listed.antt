@@ -1,16 +1,12 @@
 -- Lexemes that were written to two lent arrays are read back.
-use Prim.Native.Nat.{ℕ, suc, _*_, _^_, _≤_, _<_}
+use Prim.Native.Nat.{ℕ, _^_, _≤_, _<_}
 use native.Mathlib.Omega.{arith}
 use mathlib.Core.Path.{_≡_, refl, ap}
 use mathlib.Core.List.{List, [], _∷_}
 use lib.ListN.{length, take, drop}
-use Rattle.rules.specs.Lexing.{Lexeme, placesOf, lexemesIn, kindsWith, wordsWith}
-use Rattle.rules.specs.Parts.{lexemesFrom}
+use Rattle.rules.specs.Lent.{Lexeme, Arrays, arrays, placesOf, arrayPlaces, lexemesIn, contents, lexemesFrom, kindsWith, wordsWith, holding, lent}
+use Rattle.rules.proofs.Arithmetic.{suc-double}
 use Rattle.rules.proofs.Spans.{span-of-words}
-
--- two words for each place
-suc-double : (n : ℕ) → suc n * 2 ≡ suc (suc (n * 2))
-suc-double n = omega arith
 
 -- every span of some lexemes starts and ends within the limit, so that its two words name it
 abbrev pub AllWords : List Lexeme → Type 0
@@ -27,7 +23,17 @@ lexemes-with (p ∷ ps) (k ∷ ks) (a ∷ (b ∷ ws)) room small =
     rw (suc-double (length ps), span-of-words (p .at) (small .0) (small .1))
     (ap (λ (r : List Lexeme). p ∷ r) (lexemes-with ps ks ws (omega arith) (small .2)))
 
+-- the same of the arrays as one
+pub contents-holding : (ps : List Lexeme) (a : Arrays) → length ps ≤ arrayPlaces a → AllWords ps → take (length ps) (contents (holding ps a)) ≡ ps
+contents-holding ps a room small = lexemes-with ps (a .kinds) (a .words) room small
+
 -- so are those from a place on
-pub lexemes-from-with : (ps : List Lexeme) (ks ws : List ℕ) (place : ℕ) → length ps ≤ placesOf ks ws → AllWords ps →
-    lexemesFrom (kindsWith ps ks) (wordsWith ps ws) (length ps) place ≡ drop place ps
-lexemes-from-with ps ks ws place room small = ap (λ (r : List Lexeme). drop place r) (lexemes-with ps ks ws room small)
+pub lexemes-from-holding : (ps : List Lexeme) (a : Arrays) (place : ℕ) → length ps ≤ arrayPlaces a → AllWords ps → lexemesFrom (holding ps a) (length ps) place ≡ drop place ps
+lexemes-from-holding ps a place room small = ap (λ (r : List Lexeme). drop place r) (contents-holding ps a room small)
+
+-- arrays, or what is lent, are the same by each array
+pub same-arrays : {ks ks′ ws ws′ : List ℕ} → ks ≡ ks′ → ws ≡ ws′ → arrays ks ws ≡ arrays ks′ ws′
+same-arrays e f = rw (e, f)
+
+pub same-lent : {ks ks′ ws ws′ : List ℕ} → ks ≡ ks′ → ws ≡ ws′ → lent ks ws ≡ lent ks′ ws′
+same-lent e f = rw (e, f)

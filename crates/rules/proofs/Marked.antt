@@ -6,10 +6,12 @@ use mathlib.Core.Option.{some}
 use lib.ListN.{length, replicate}
 use Rattle.rules.specs.Text.{ascii}
 use Rattle.rules.specs.Refusals.{ControlByte, NoFractionDigit, NoExponentDigit, NoBinaryDigit, AnotherDue, UnclosedHole, NoDigits, ManyDigits}
-use Rattle.rules.specs.Spans.{Span, span, low, high, Answer, given, refused, refuse, Verdict, accepted}
+use Rattle.rules.specs.Spans.{Span, span, low, high}
+use Rattle.rules.specs.Answers.{Answer, given, refused, refuse, Verdict, accepted}
 use Rattle.rules.specs.Kinds.{Ident, FormatDouble, QuoteClose, HoleOpen, HoleClose, NumDecimal, ThinArrow, Minus, Eq1, Semicolon}
-use Rattle.rules.specs.Lexing.{Lexed, Lexeme, lexeme, wordsOf, listing, lexing}
-use Rattle.rules.specs.Value.{Where, inOutput, valueCall, handed}
+use Rattle.rules.specs.Lent.{Lexeme, lexeme, arrays, wordsOf}
+use Rattle.rules.specs.Lexing.{Lexed, listing, lexing}
+use Rattle.rules.specs.Value.{Held, inOutput, valueCall, handed}
 use Rattle.rules.specs.Tidy.{respaced}
 use Rattle.rules.proofs.Computes.{computes}
 
@@ -33,13 +35,13 @@ kindsIn = map (λ l. l .kind)
 abbrev output : List ℕ
 output = replicate 4 0
 
-abbrev value : List ℕ → Answer Where
+abbrev value : List ℕ → Answer Held
 value text =
-    valueCall text (kindsIn (listed 0 text)) (wordsOf (listed 0 text)) places 0 (replicate 4 0) (replicate 8 0) output 0 .answer
+    valueCall text (arrays (kindsIn (listed 0 text)) (wordsOf (listed 0 text))) places 0 (arrays (replicate 4 0) (replicate 8 0)) output 0 .answer
 
 abbrev valueBytes : List ℕ → List ℕ
 valueBytes text =
-    valueCall text (kindsIn (listed 0 text)) (wordsOf (listed 0 text)) places 0 (replicate 4 0) (replicate 8 0) output 0 .output
+    valueCall text (arrays (kindsIn (listed 0 text)) (wordsOf (listed 0 text))) places 0 (arrays (replicate 4 0) (replicate 8 0)) output 0 .output
 
 pub record MarkedPairs (doc : ℕ) : Type 0 where
   -- (a) empty text: accepted, all counts 0

@@ -13,6 +13,7 @@ use lib.Dec.{leb, ltb, eqb}
 use borrow.Author.Tests.{leb-true, ltb-true, ltb-false, le-ltb, le-leb, lt-leb, eqb-true, eqb-false}
 use Rattle.rules.specs.Utf8.{Octet, UTF8-tail, UTF8-char, UTF8-1, UTF8-2, UTF8-3-E0, UTF8-3-E1, UTF8-3-ED, UTF8-3-EE, UTF8-4-F0, UTF8-4-F1, UTF8-4-F4, UTF8-octets, empty, more, isOctet, isTail, isTwo, isThree, isFour, charLength, firstBadFrom, firstBad, encode, isScalar}
 use Rattle.rules.proofs.Utf8.{stops, goes-on, char-fits}
+use Rattle.rules.proofs.Text.{decide}
 
 -- a range and its test
 octet-yes : {lo hi b : ℕ} → Octet lo hi b → isOctet lo hi b ≡ true
@@ -136,11 +137,6 @@ char-length (UTF8-4-F1 {a = a} {b = b} {c = c} {d = d} p q r t) s =
     four-long a b c d s (omega arith) (simp (octet-yes p, octet-yes q, octet-yes r, octet-yes t, or-true))
 char-length (UTF8-4-F4 {a = a} {b = b} {c = c} {d = d} p q r t) s =
     four-long a b c d s (omega arith) (simp (octet-yes p, octet-yes q, octet-yes r, octet-yes t, or-true))
-
--- the character that `charLength` finds
-decide : {P : Type 0} (b : Bool) → (b ≡ true → P) → (b ≡ false → P) → P
-decide true f g = f refl
-decide false f g = g refl
 
 front-two : (a : ℕ) (s : List ℕ) → charLength (a ∷ s) ≡ 2 → isTwo a (getD s 0 0) ≡ true → UTF8-char (take 2 (a ∷ s))
 front-two a [] e t = absurd (omega (arith, char-fits (a ∷ [])))

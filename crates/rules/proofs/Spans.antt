@@ -6,7 +6,9 @@ use mathlib.Core.Bool.{Bool, true, false, not, cond, _&&_, or-false}
 use lib.Dec.{ltb, leb, eqb}
 use borrow.Author.Tests.{le-ltb, le-leb, lt-leb, ltb-true, ltb-false}
 use Rattle.rules.specs.Refusals.{BadSpan}
-use Rattle.rules.specs.Spans.{Span, span, low, high, limit, spanOf, Answer, refuse, isBad, nowhere, unlessApart}
+use Rattle.rules.specs.Spans.{Span, span, low, high, limit, spanOf, isBad, nowhere}
+use Rattle.rules.specs.Answers.{Answer, refuse}
+use Rattle.rules.specs.Source.{unlessApart}
 
 -- spans are equal by their parts
 pub same-span : {d a e d′ a′ e′ : ℕ} → d ≡ d′ → a ≡ a′ → e ≡ e′ → span d a e ≡ span d′ a′ e′

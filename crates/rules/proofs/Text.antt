@@ -3,7 +3,7 @@ use Prim.Native.Nat.{ℕ, suc}
 use Prim.Native.Char.{Char, code}
 use mathlib.Core.Path.{_≡_, refl, sym, ap, _∙_}
 use mathlib.Core.List.{List, [], _∷_, _++_, append-nil}
-use mathlib.Core.Bool.{Bool, true, false, cond, _||_, false≢true}
+use mathlib.Core.Bool.{Bool, true, false, cond, _&&_, _||_, false≢true, true≢false}
 use borrow.Author.Tests.{eqb-true}
 use lib.ListN.{length}
 use Rattle.rules.specs.Text.{is, starts, run, all, keep}
@@ -12,6 +12,16 @@ use Rattle.rules.specs.Text.{is, starts, run, all, keep}
 pub decide : {P : Type 0} (b : Bool) → (b ≡ true → P) → (b ≡ false → P) → P
 decide true f g = f refl
 decide false f g = g refl
+
+-- both of two tests pass
+pub both : (a b : Bool) → a && b ≡ true → (a ≡ true) × (b ≡ true)
+both true b e = (refl, e)
+both false b e = absurd (false≢true e)
+
+-- neither of two tests passes
+pub neither : (a b : Bool) → a || b ≡ false → (a ≡ false) × (b ≡ false)
+neither true b e = absurd (true≢false e)
+neither false b e = (refl, e)
 
 -- a branch, by its test
 pub branch : {A P : Type 0} (b : Bool) {x y z : A} → cond b x y ≡ z → (b ≡ true → x ≡ z → P) → (b ≡ false → y ≡ z → P) → P

@@ -14,15 +14,17 @@ use Rattle.rules.specs.Refusals.{NotUtf8, TooLong, StackFull, ListFull}
 use Rattle.rules.specs.Spans.{span, low, high, limit, spanOf}
 use Rattle.rules.specs.Kinds.{isSpace, isOpener, isCloser}
 use Rattle.rules.specs.Step.{found, stop, step}
-use Rattle.rules.specs.Lexing.{Piece, piece, End, stopped, Trace, ends, after, openAfter, codesAfter, innermost, atEnd, traceFrom, trace, depthAfter, roomAfter, limited, lexemesOf, joined, deepestFrom, Lexeme, lexeme, placed, listedOf, openOf, wordsOf, kindsWith, wordsWith}
+use Rattle.rules.specs.Lent.{Lexeme, lexeme, wordsOf, kindsWith, wordsWith}
+use Rattle.rules.specs.Lexing.{Taken, taken, End, stopped, Trace, ends, after, openAfter, codesAfter, innermost, atEnd, traceFrom, trace, depthAfter, roomAfter, limited, lexemesOf, joined, deepestFrom, placed, listedOf, openOf}
+use Rattle.rules.proofs.Arithmetic.{suc-double}
 use Rattle.rules.proofs.Text.{decide}
 
-pub joined-append : (ps qs : List Piece) → joined (ps ++ qs) ≡ joined ps ++ joined qs
+pub joined-append : (ps qs : List Taken) → joined (ps ++ qs) ≡ joined ps ++ joined qs
 joined-append [] qs = refl
 joined-append (p ∷ ps) qs = ap (λ (r : List ℕ). p .bytes ++ r) (joined-append ps qs) ∙ sym (append-assoc (p .bytes) (joined ps) (joined qs))
 
 -- The spans of steps one after the other
-pub placed-append : (doc at : ℕ) (ps qs : List Piece) → placed doc at (ps ++ qs) ≡ placed doc at ps ++ placed doc (at + length (joined ps)) qs
+pub placed-append : (doc at : ℕ) (ps qs : List Taken) → placed doc at (ps ++ qs) ≡ placed doc at ps ++ placed doc (at + length (joined ps)) qs
 placed-append doc at [] qs = ap (λ (n : ℕ). placed doc n qs) (omega arith)
 placed-append doc at (p ∷ ps) qs =
     let next : ℕ = at + length (p .bytes) in
@@ -30,7 +32,7 @@ placed-append doc at (p ∷ ps) qs =
     let more : placed doc next (ps ++ qs) ≡ placed doc next ps ++ placed doc (next + length (joined ps)) qs = placed-append doc next ps qs in
     ap (λ (r : List Lexeme). lexeme (p .kind) (span doc at next) ∷ r) (more ∙ ap (λ (n : ℕ). placed doc next ps ++ placed doc n qs) same)
 
-pub listed-kept : (doc at : ℕ) (ps : List Piece) → length (listedOf (placed doc at ps)) ≡ length (lexemesOf ps)
+pub listed-kept : (doc at : ℕ) (ps : List Taken) → length (listedOf (placed doc at ps)) ≡ length (lexemesOf ps)
 listed-kept doc at [] = refl
 listed-kept doc at (p ∷ ps) =
     let more : length (listedOf (placed doc (at + length (p .bytes)) ps)) ≡ length (lexemesOf ps) = listed-kept doc (at + length (p .bytes)) ps in
@@ -61,7 +63,7 @@ open-length kindOf os x =
     (λ e. rw e (decide (isCloser (kindOf x)) (λ f. rw f (length-drop-one os)) (λ f. rw f)))
 
 -- the deepest after one more step: what is open after the steps before it is as deep as the openers that are open
-pub deepest-snoc : (doc at : ℕ) (os : List Lexeme) (ps : List Piece) (p : Piece) →
+pub deepest-snoc : (doc at : ℕ) (os : List Lexeme) (ps : List Taken) (p : Taken) →
     deepestFrom (length os) (ps ++ (p ∷ [])) ≡ max (deepestFrom (length os) ps) (depthAfter (length (openOf os (placed doc at ps))) (p .kind))
 deepest-snoc doc at os [] p = refl
 deepest-snoc doc at os (q ∷ ps) p =
@@ -79,11 +81,11 @@ skip openers (suc n) [] = refl
 skip openers (suc n) (b ∷ s) = skip openers n s
 
 pub trace-found : (openers s : List ℕ) (k n : ℕ) → 0 < length s → 0 < n → step (innermost openers) s ≡ found k n →
-    traceFrom openers 0 s ≡ after (piece k (take n s)) (traceFrom (codesAfter openers k) 0 (drop n s))
+    traceFrom openers 0 s ≡ after (taken k (take n s)) (traceFrom (codesAfter openers k) 0 (drop n s))
 unfolding traceFrom
 trace-found openers [] k n some-left moves e = absurd (omega arith)
 trace-found openers (b ∷ s) k zero some-left moves e = absurd (omega arith)
-trace-found openers (b ∷ s) k (suc n) some-left moves e = rw e (ap (λ (t : Trace). after (piece k (b ∷ take n s)) t) (skip (codesAfter openers k) n s))
+trace-found openers (b ∷ s) k (suc n) some-left moves e = rw e (ap (λ (t : Trace). after (taken k (b ∷ take n s)) t) (skip (codesAfter openers k) n s))
 
 pub trace-stopped : (openers s : List ℕ) (number from n : ℕ) → 0 < length s → step (innermost openers) s ≡ stop number from n → traceFrom openers 0 s ≡ ends (stopped number from n)
 unfolding traceFrom
@@ -110,37 +112,37 @@ trace-good text h e = rw (le-ltb limit (length text) h, e)
 
 -- In lent memory, with t a trace
 abbrev pub within : (stack depth room : ℕ) → Trace → Trace
-within stack depth room t = limited stack depth room (t .pieces) (t .end)
+within stack depth room t = limited stack depth room (t .taken) (t .end)
 
 pub within-ends : (stack depth room : ℕ) (e : End) → within stack depth room (ends e) ≡ ends e
 unfolding limited
 within-ends stack depth room e = refl
 
 -- a lexeme for which there is room
-pub within-after : (stack depth room : ℕ) (p : Piece) (t : Trace) → isOpener (p .kind) && leb stack depth ≡ false → not (isSpace (p .kind)) && eqb room 0 ≡ false →
+pub within-after : (stack depth room : ℕ) (p : Taken) (t : Trace) → isOpener (p .kind) && leb stack depth ≡ false → not (isSpace (p .kind)) && eqb room 0 ≡ false →
     within stack depth room (after p t) ≡ after p (within stack (depthAfter depth (p .kind)) (roomAfter room (p .kind)) t)
 unfolding limited
 within-after stack depth room p t a b = rw (a, b)
 
 -- a full stack, then a full list
-pub within-full-stack : (stack depth room : ℕ) (p : Piece) (t : Trace) → isOpener (p .kind) && leb stack depth ≡ true →
+pub within-full-stack : (stack depth room : ℕ) (p : Taken) (t : Trace) → isOpener (p .kind) && leb stack depth ≡ true →
     within stack depth room (after p t) ≡ ends (stopped StackFull 0 (length (p .bytes)))
 unfolding limited
 within-full-stack stack depth room p t a = rw a
 
-pub within-full-list : (stack depth room : ℕ) (p : Piece) (t : Trace) → isOpener (p .kind) && leb stack depth ≡ false → not (isSpace (p .kind)) && eqb room 0 ≡ true →
+pub within-full-list : (stack depth room : ℕ) (p : Taken) (t : Trace) → isOpener (p .kind) && leb stack depth ≡ false → not (isSpace (p .kind)) && eqb room 0 ≡ true →
     within stack depth room (after p t) ≡ ends (stopped ListFull 0 (length (p .bytes)))
 unfolding limited
 within-full-list stack depth room p t a b = rw (a, b)
 
 -- Steps that are behind, and a trace that is ahead
-abbrev pub behind : List Piece → Trace → Trace
-behind ps t = record { pieces = ps ++ t .pieces; end = t .end }
+abbrev pub behind : List Taken → Trace → Trace
+behind ps t = record { taken = ps ++ t .taken; end = t .end }
 
-pub behind-after : (ps : List Piece) (p : Piece) (t : Trace) → behind ps (after p t) ≡ behind (ps ++ (p ∷ [])) t
-behind-after ps p t = rw (append-assoc ps (p ∷ []) (t .pieces))
+pub behind-after : (ps : List Taken) (p : Taken) (t : Trace) → behind ps (after p t) ≡ behind (ps ++ (p ∷ [])) t
+behind-after ps p t = rw (append-assoc ps (p ∷ []) (t .taken))
 
-pub behind-ends : (ps : List Piece) (e : End) → behind ps (ends e) ≡ record { pieces = ps; end = e }
+pub behind-ends : (ps : List Taken) (e : End) → behind ps (ends e) ≡ record { taken = ps; end = e }
 behind-ends ps e = rw (append-nil ps)
 
 -- The lent arrays with one lexeme more
@@ -149,10 +151,6 @@ kinds-snoc [] l [] room = absurd (omega arith)
 kinds-snoc [] l (k ∷ ks) room = refl
 kinds-snoc (m ∷ ls) l [] room = absurd (omega arith)
 kinds-snoc (m ∷ ls) l (k ∷ ks) room = ap (λ (r : List ℕ). m .kind ∷ r) (kinds-snoc ls l ks (omega arith))
-
--- two words for each lexeme
-suc-double : (n : ℕ) → suc n * 2 ≡ suc (suc (n * 2))
-suc-double n = omega arith
 
 suc-double-one : (n : ℕ) → suc n * 2 + 1 ≡ suc (suc (n * 2 + 1))
 suc-double-one n = omega arith

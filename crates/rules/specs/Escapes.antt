@@ -10,9 +10,10 @@ use Rattle.rules.specs.Text.{is, begins, same, all}
 use Rattle.rules.specs.Bytes.{isDigit, isHexDigit, isCapital}
 use Rattle.rules.specs.Utf8.{encode, isScalar}
 use Rattle.rules.specs.Refusals.{WrongForm, UnknownEscape, CapitalEscape, NoDigits, ManyDigits, NotScalar}
-use Rattle.rules.specs.Spans.{Span, bytesAt, Answer, given, refused, refuse, unlessBad, Verdict, accepted}
+use Rattle.rules.specs.Spans.{Span, bytesAt}
+use Rattle.rules.specs.Answers.{Answer, given, refused, refuse, Verdict, unlessBad}
 use Rattle.rules.specs.Kinds.{Single, Unicode4, UnicodeDelim}
-use Rattle.rules.specs.Output.{endOf, chunk, written, overwritten}
+use Rattle.rules.specs.Output.{endOf, piece, written, overwritten}
 
 -- "Form: kind 11 is `\` and one byte"
 unfoldable pub isSingle : List ℕ → Bool
@@ -75,10 +76,6 @@ abbrev pub escapeBytes : Answer ℕ → List ℕ
 escapeBytes (given u) = encode u
 escapeBytes (refused r) = []
 
-abbrev pub verdictOn : {A : Type 0} → Answer A → Verdict
-verdictOn (given x) = accepted
-verdictOn (refused r) = refused r
-
 -- the call: how many bytes were written, and the output after it
 pub record Unescaped : Type 0 where
   pub answer : Answer ℕ
@@ -92,7 +89,7 @@ wroteAll n (refused r) = refused r
 unfoldable pub scalarPut : Span → (out : List ℕ) (at : ℕ) → Answer ℕ → Unescaped
 scalarPut s out at (refused r) = record { answer = refused r; output = out }
 scalarPut s out at (given u) =
-    let w = written (endOf out) at (chunk (encode u) s ∷ []) in
+    let w = written (endOf out) at (piece (encode u) s ∷ []) in
     record { answer = wroteAll (length (w .bytes)) (w .verdict); output = overwritten out at (w .bytes) }
 
 unfoldable pub unescape : List ℕ → Span → (kind : ℕ) (out : List ℕ) (at : ℕ) → Unescaped

@@ -6,19 +6,10 @@ use lib.Dec.{leb, eqb}
 use lib.ListN.{take, drop, length}
 use Rattle.rules.specs.Text.{is, begins, run}
 use Rattle.rules.specs.Refusals.{WrongForm}
-use Rattle.rules.specs.Spans.{bytesAt, Answer, given, refused, refuse, unlessBad, Verdict, accepted}
+use Rattle.rules.specs.Spans.{bytesAt}
+use Rattle.rules.specs.Answers.{Answer, given, refuse, Verdict, accepted, andThen, firstRefusal, unlessBad}
 use Rattle.rules.specs.Kinds.{StringInner, HoleOpen, between}
-use Rattle.rules.specs.Lexing.{Lexeme, lexemesIn}
-
--- a verdict, or what comes after it
-abbrev pub andThen : {A : Type 0} → Verdict → Answer A → Answer A
-andThen (given u) a = a
-andThen (refused r) a = refused r
-
--- the first refusal along a list
-abbrev pub firstRefusal : (Lexeme → Verdict) → List Lexeme → Verdict
-firstRefusal f [] = accepted
-firstRefusal f (p ∷ ps) = andThen (f p) (firstRefusal f ps)
+use Rattle.rules.specs.Lent.{Lexeme, Arrays, contents}
 
 -- "Refusals per part, in order: 3, then 40 for a kind outside 10 to 14 or a span outside the text."
 unfoldable pub partVerdict : List ℕ → Lexeme → Verdict
@@ -63,7 +54,7 @@ unfoldable pub indentOf : List ℕ → List Lexeme → ℕ
 indentOf text ps = fewest (indentsOf text ps)
 
 -- the call, over a parts list with so many in it
-unfoldable pub indentCall : List ℕ → (kinds words : List ℕ) (count : ℕ) → Answer ℕ
-indentCall text ks ws count =
-    let ps = take count (lexemesIn ks ws) in
+unfoldable pub indentCall : List ℕ → (parts : Arrays) (count : ℕ) → Answer ℕ
+indentCall text parts count =
+    let ps = take count (contents parts) in
     andThen (firstRefusal (partVerdict text) ps) (given (indentOf text ps))

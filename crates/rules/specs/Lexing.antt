@@ -1,7 +1,7 @@
--- Lexing a text: its steps; the lent list and stack; what is listed, counted and refused.
-use Prim.Native.Nat.{ℕ, zero, suc, pred, _+_, _*_, _/_, min, max}
+-- Lexing a text: its steps; what is listed, counted and refused, in a lent list and stack.
+use Prim.Native.Nat.{ℕ, zero, suc, pred, _+_, max}
 use mathlib.Core.Path.{_≡_}
-use mathlib.Core.List.{List, [], _∷_, _++_, map}
+use mathlib.Core.List.{List, [], _∷_, map}
 use mathlib.Core.Bool.{Bool, true, false, cond, not, _&&_}
 use mathlib.Core.Option.{Option, none, some}
 use lib.Dec.{leb, ltb, eqb}
@@ -9,17 +9,19 @@ use lib.ListN.{take, drop, length}
 use Rattle.rules.specs.Text.{keep, join}
 use Rattle.rules.specs.Utf8.{firstBad}
 use Rattle.rules.specs.Refusals.{NotUtf8, TooLong, AnotherDue, UnclosedBracket, UnclosedHole, UnclosedString, UnclosedFormat, StackFull, ListFull}
-use Rattle.rules.specs.Spans.{Span, span, low, high, spanOf, limit, refused, Verdict, accepted}
+use Rattle.rules.specs.Spans.{Span, span, limit}
+use Rattle.rules.specs.Answers.{refused, Verdict, accepted}
 use Rattle.rules.specs.Kinds.{HoleOpen, Nothing, between, isSpace, isQuoteOpen, isFormat, isOpener, isCloser}
 use Rattle.rules.specs.Step.{Step, found, stop, step}
+use Rattle.rules.specs.Lent.{Lent, placesIn, filled, FreeBelow, Lexeme, lexeme}
 
 -- a step that was not refused: its kind and its bytes
-pub record Piece : Type 0 where
+pub record Taken : Type 0 where
   pub kind : ℕ
   pub bytes : List ℕ
 
-abbrev pub piece : ℕ → List ℕ → Piece
-piece k w = record { kind = k; bytes = w }
+abbrev pub taken : ℕ → List ℕ → Taken
+taken k w = record { kind = k; bytes = w }
 
 -- how the steps of a text end: at the text's end, or with a refusal, whose span starts so many bytes after the last step
 pub data End : Type 0 where
@@ -27,14 +29,14 @@ pub data End : Type 0 where
   stopped : (number from length : ℕ) → End
 
 pub record Trace : Type 0 where
-  pub pieces : List Piece
+  pub taken : List Taken
   pub end : End
 
 abbrev pub ends : End → Trace
-ends e = record { pieces = []; end = e }
+ends e = record { taken = []; end = e }
 
-abbrev pub after : Piece → Trace → Trace
-after p t = record { pieces = p ∷ t .pieces; end = t .end }
+abbrev pub after : Taken → Trace → Trace
+after p t = record { taken = p ∷ t .taken; end = t .end }
 
 -- what is open, innermost first, after one more lexeme: an opener is added, a closer takes one
 unfoldable pub openAfter : {A : Type 0} → (A → ℕ) → List A → A → List A
@@ -68,7 +70,7 @@ unfoldable pub traceFrom : (openers : List ℕ) (skip : ℕ) → List ℕ → Tr
 traceFrom openers skip [] = ends (atEnd openers)
 traceFrom openers (suc skip) (b ∷ s) = traceFrom openers skip s
 traceFrom openers zero (b ∷ s) =
-    follow (step (innermost openers) (b ∷ s)) (λ k n. after (piece k (take n (b ∷ s))) (traceFrom (codesAfter openers k) (pred n) s))
+    follow (step (innermost openers) (b ∷ s)) (λ k n. after (taken k (take n (b ∷ s))) (traceFrom (codesAfter openers k) (pred n) s))
 
 -- refusal 1
 abbrev pub unlessNotUtf8 : Option ℕ → Trace → Trace
@@ -91,12 +93,17 @@ accepts text = meetsNoRefusal ((trace text) .end)
 abbrev pub depthAfter : ℕ → ℕ → ℕ
 depthAfter depth k = cond (isOpener k) (suc depth) (cond (isCloser k) (pred depth) depth)
 
+-- how many are open after some steps
+abbrev pub openAfterAll : ℕ → List Taken → ℕ
+openAfterAll depth [] = depth
+openAfterAll depth (p ∷ ps) = openAfterAll (depthAfter depth (p .kind)) ps
+
 -- how many places are left after one more lexeme
 abbrev pub roomAfter : ℕ → ℕ → ℕ
 roomAfter room k = cond (isSpace k) room (pred room)
 
 -- "in a step, text errors, then 30, then 31, before anything is written": the steps in a stack of so many places, of which `depth` are taken, and a list with room for so many
-unfoldable pub limited : (stack depth room : ℕ) → List Piece → End → Trace
+unfoldable pub limited : (stack depth room : ℕ) → List Taken → End → Trace
 limited stack depth room [] e = ends e
 limited stack depth room (p ∷ ps) e =
     let more = limited stack (depthAfter depth (p .kind)) (roomAfter room (p .kind)) ps e in
@@ -106,33 +113,25 @@ limited stack depth room (p ∷ ps) e =
 
 -- the steps of a lexing call
 unfoldable pub traceIn : (places stack : ℕ) → List ℕ → Trace
-traceIn places stack text = limited stack 0 places ((trace text) .pieces) ((trace text) .end)
+traceIn places stack text = limited stack 0 places ((trace text) .taken) ((trace text) .end)
 
 -- Counts. "Of the steps not refused (reaching the end is none), steps is the number; lexemes, those that are no Space; kept and dropped, the bytes of lexemes and of Spaces"
-abbrev pub lexemesOf : List Piece → List Piece
+abbrev pub lexemesOf : List Taken → List Taken
 lexemesOf = keep (λ p. not (isSpace (p .kind)))
 
-abbrev pub spacesOf : List Piece → List Piece
+abbrev pub spacesOf : List Taken → List Taken
 spacesOf = keep (λ p. isSpace (p .kind))
 
-abbrev pub joined : List Piece → List ℕ
+abbrev pub joined : List Taken → List ℕ
 joined ps = join (map (λ p. p .bytes) ps)
 
 -- "deepest, the most lexemes of codes 5 to 8, 14, 33, 35, 37 open at once", where so many are open before
-abbrev pub deepestFrom : (depth : ℕ) → List Piece → ℕ
+abbrev pub deepestFrom : (depth : ℕ) → List Taken → ℕ
 deepestFrom depth [] = depth
 deepestFrom depth (p ∷ ps) = max depth (deepestFrom (depthAfter depth (p .kind)) ps)
 
--- a listed lexeme, or an opener on the stack, or a part of a string
-pub record Lexeme : Type 0 where
-  pub kind : ℕ
-  pub at : Span
-
-abbrev pub lexeme : ℕ → Span → Lexeme
-lexeme k s = record { kind = k; at = s }
-
 -- the steps with their spans, from a position on
-abbrev pub placed : (doc at : ℕ) → List Piece → List Lexeme
+abbrev pub placed : (doc at : ℕ) → List Taken → List Lexeme
 placed doc at [] = []
 placed doc at (p ∷ ps) =
     let next = at + length (p .bytes) in
@@ -169,51 +168,24 @@ pub record Lexed : Type 0 where
 
 unfoldable pub lexedOf : (doc : ℕ) → Trace → Lexed
 lexedOf doc t = record {
-  verdict = verdictOf doc (length (joined (t .pieces))) (openOf [] (placed doc 0 (t .pieces))) (t .end);
-  lexemes = length (lexemesOf (t .pieces));
-  steps = length (t .pieces);
-  kept = length (joined (lexemesOf (t .pieces)));
-  dropped = length (joined (spacesOf (t .pieces)));
-  deepest = deepestFrom 0 (t .pieces);
+  verdict = verdictOf doc (length (joined (t .taken))) (openOf [] (placed doc 0 (t .taken))) (t .end);
+  lexemes = length (lexemesOf (t .taken));
+  steps = length (t .taken);
+  kept = length (joined (lexemesOf (t .taken)));
+  dropped = length (joined (spacesOf (t .taken)));
+  deepest = deepestFrom 0 (t .taken);
 }
-
--- Lent memory. "its places are the smaller of the first length and half the second, rounded down"
-abbrev pub placesOf : (kinds words : List ℕ) → ℕ
-placesOf ks ws = min (length ks) (length ws / 2)
-
--- what stands in the two arrays of a list
-abbrev pub lexemesIn : (kinds words : List ℕ) → List Lexeme
-lexemesIn [] ws = []
-lexemesIn (k ∷ ks) [] = []
-lexemesIn (k ∷ ks) (l ∷ []) = []
-lexemesIn (k ∷ ks) (l ∷ (h ∷ ws)) = lexeme k (spanOf l h) ∷ lexemesIn ks ws
-
--- the arrays with these lexemes at their start, every later place untouched
-abbrev pub kindsWith : List Lexeme → List ℕ → List ℕ
-kindsWith ls ks = map (λ l. l .kind) ls ++ drop (length ls) ks
-
-abbrev pub wordsOf : List Lexeme → List ℕ
-wordsOf [] = []
-wordsOf (l ∷ ls) = low (l .at) ∷ high (l .at) ∷ wordsOf ls
-
-abbrev pub wordsWith : List Lexeme → List ℕ → List ℕ
-wordsWith ls ws = wordsOf ls ++ drop (length ls * 2) ws
 
 -- what a lexing call lists
 unfoldable pub listing : (doc places stack : ℕ) → List ℕ → List Lexeme
-listing doc places stack text = listedOf (placed doc 0 ((traceIn places stack text) .pieces))
+listing doc places stack text = listedOf (placed doc 0 ((traceIn places stack text) .taken))
 
 -- what a lexing call answers
 unfoldable pub lexing : (doc places stack : ℕ) → List ℕ → Lexed
 lexing doc places stack text = lexedOf doc (traceIn places stack text)
 
--- what a lexing call leaves, of a list (kinds ks, words ws) and a stack (sk, sw) lent in two arrays each, and afterwards ks′ and so on: its result and list are those above; every place after what was listed, and "Stack places from the deepest
--- nesting upward", are untouched, "lower ones are free"
-pub record Lexes (doc : ℕ) (text ks ws sk sw : List ℕ) (r : Lexed) (ks′ ws′ sk′ sw′ : List ℕ) : Type 0 where
-  pub result : r ≡ lexing doc (placesOf ks ws) (placesOf sk sw) text
-  pub kinds : ks′ ≡ kindsWith (listing doc (placesOf ks ws) (placesOf sk sw) text) ks
-  pub words : ws′ ≡ wordsWith (listing doc (placesOf ks ws) (placesOf sk sw) text) ws
-  pub stackKinds : drop (r .deepest) sk′ ≡ drop (r .deepest) sk
-  pub stackWords : drop (r .deepest * 2) sw′ ≡ drop (r .deepest * 2) sw
-  pub stackKindsLength : length sk′ ≡ length sk
-  pub stackWordsLength : length sw′ ≡ length sw
+-- what a lexing call leaves of the list and the stack lent to it, where its result is r: its result and list are those above, every place after what was listed is untouched, and "Stack places from the deepest nesting upward" are too
+pub record Lexes (doc : ℕ) (text : List ℕ) (list stack : Lent) (r : Lexed) (list′ stack′ : Lent) : Type 0 where
+  pub result : r ≡ lexing doc (placesIn list) (placesIn stack) text
+  pub listed : list′ ≡ filled (listing doc (placesIn list) (placesIn stack) text) list
+  pub stacked : FreeBelow (r .deepest) stack stack′

@@ -9,15 +9,21 @@ pub mod Bytes
 pub mod Utf8
 -- "What is turned down, and where": the refusals' numbers by name
 pub mod Refusals
--- "Spans"; an answer or a refusal
+-- "Spans"
 pub mod Spans
+-- an answer or a refusal
+pub mod Answers
+-- what can be done with spans
+pub mod Source
 -- "Kind codes"
 pub mod Kinds
 -- "One step of the lexer": outside strings, in a string
 pub mod Step
 -- RFC 8259's numbers
 pub mod Decimals
--- "What is turned down, and where": the steps of a text, lent list and stack, counts, notes
+-- lent memory: lists and stacks in parallel arrays
+pub mod Lent
+-- "What is turned down, and where": the steps of a text, counts, notes
 pub mod Lexing
 -- "Beside the line": is_identifier, is_keyword
 pub mod Names

@@ -5,26 +5,27 @@ use mathlib.Core.Bool.{cond}
 use lib.Dec.{leb}
 use lib.ListN.{take, drop, length}
 use Rattle.rules.specs.Refusals.{OutputFull}
-use Rattle.rules.specs.Spans.{Span, nowhere, limit, Verdict, accepted, refuse}
+use Rattle.rules.specs.Spans.{Span, nowhere, limit}
+use Rattle.rules.specs.Answers.{Verdict, accepted, refuse}
 
 -- "An output ends at 2^48 − 1 bytes at most"
 abbrev pub endOf : List ℕ → ℕ
 endOf out = min (length out) limit
 
 -- bytes that are written whole or not, and the span of refusal 46 if not
-pub record Chunk : Type 0 where
+pub record Piece : Type 0 where
   pub bytes : List ℕ
   pub at : Span
 
-abbrev pub chunk : List ℕ → Span → Chunk
-chunk w s = record { bytes = w; at = s }
+abbrev pub piece : List ℕ → Span → Piece
+piece w s = record { bytes = w; at = s }
 
 pub record Written : Type 0 where
   pub bytes : List ℕ
   pub verdict : Verdict
 
 -- one after another, from a position, in an output with this end: "a position past its end gives 46", also where there is nothing to write
-unfoldable pub written : (end at : ℕ) → List Chunk → Written
+unfoldable pub written : (end at : ℕ) → List Piece → Written
 written end at [] = record { bytes = []; verdict = cond (leb at end) accepted (refuse OutputFull nowhere) }
 written end at (c ∷ cs) =
     let next = at + length (c .bytes) in

@@ -4,32 +4,33 @@ use mathlib.Core.Path.{_≡_}
 use mathlib.Core.List.{List, [], _∷_}
 use mathlib.Core.Bool.{cond, _||_}
 use lib.Dec.{eqb}
-use lib.ListN.{take, drop, length}
+use lib.ListN.{length}
 use Rattle.rules.specs.Refusals.{BadSpan, ListFull, NoString}
-use Rattle.rules.specs.Spans.{Span, nowhere, isBad, enclosing, Answer, given, refuse}
+use Rattle.rules.specs.Spans.{Span, nowhere, isBad, enclosing}
+use Rattle.rules.specs.Answers.{Answer, given, refuse}
 use Rattle.rules.specs.Kinds.{QuoteClose, StringInner, HoleOpen, HoleClose, isQuoteOpen, isEscape}
-use Rattle.rules.specs.Lexing.{Lexeme, lexeme, placesOf, lexemesIn, kindsWith, wordsWith}
+use Rattle.rules.specs.Lent.{Lexeme, lexeme, Arrays, arrayPlaces, lexemesFrom, holding}
 
 -- what one lexeme does: it is the closer; it is refused; it is passed over, with the depth and the open hole's span after it; or it completes a part
-pub data Turn : Type 0 where
-  closes : Turn
-  refuses : (number : ℕ) (at : Span) → Turn
-  passes : (depth : ℕ) (hole : Span) → Turn
-  yields : Lexeme → Turn
+pub data Effect : Type 0 where
+  closes : Effect
+  refuses : (number : ℕ) (at : Span) → Effect
+  passes : (depth : ℕ) (hole : Span) → Effect
+  yields : Lexeme → Effect
 
 -- "At depth 1, StringInner and Escape are parts; a hole is one part ..; a QuoteClose met at depth 1 ends; any other kind at depth 1 .. gives 50"
-abbrev pub atDepth1 : Lexeme → Turn
+abbrev pub atDepth1 : Lexeme → Effect
 atDepth1 l =
     cond (eqb (l .kind) StringInner || isEscape (l .kind)) (yields l) (
     cond (eqb (l .kind) HoleOpen) (passes 2 (l .at)) (
     cond (eqb (l .kind) QuoteClose) closes (refuses NoString (l .at))))
 
 -- "a hole's span is the union of its two ends, and the 3 .. of that part comes at its closer"
-abbrev pub holeEnds : Span → Span → Turn
+abbrev pub holeEnds : Span → Span → Effect
 holeEnds a b = cond (eqb (a .doc) (b .doc)) (yields (lexeme HoleOpen (enclosing a b))) (refuses BadSpan nowhere)
 
 -- "Openers (QuoteOpen, HoleOpen) add one, closers take one"; "Deeper, other kinds are passed over"
-abbrev pub deeper : (depth : ℕ) (hole : Span) → Lexeme → Turn
+abbrev pub deeper : (depth : ℕ) (hole : Span) → Lexeme → Effect
 deeper depth hole l =
     cond (isQuoteOpen (l .kind) || eqb (l .kind) HoleOpen) (passes (suc depth) hole) (
     cond (eqb (l .kind) QuoteClose || eqb (l .kind) HoleClose)
@@ -37,8 +38,8 @@ deeper depth hole l =
     (passes depth hole))
 
 -- "Per lexeme: 3, 50"
-unfoldable pub turn : (depth : ℕ) (hole : Span) → Lexeme → Turn
-turn depth hole l =
+unfoldable pub effect : (depth : ℕ) (hole : Span) → Lexeme → Effect
+effect depth hole l =
     cond (isBad (l .at)) (refuses BadSpan nowhere) (
     cond (eqb depth 1) (atDepth1 l) (deeper depth hole l))
 
@@ -53,16 +54,16 @@ noParts a = record { found = []; answer = a }
 abbrev pub partThen : Lexeme → Parts → Parts
 partThen p ps = record { found = p ∷ ps .found; answer = ps .answer }
 
-abbrev pub followTurn : Turn → (place : ℕ) → ((depth : ℕ) (hole : Span) → Parts) → Parts
-followTurn closes place go = noParts (given place)
-followTurn (refuses n s) place go = noParts (refuse n s)
-followTurn (passes depth hole) place go = go depth hole
-followTurn (yields p) place go = partThen p (go 1 nowhere)
+abbrev pub followEffect : Effect → (place : ℕ) → ((depth : ℕ) (hole : Span) → Parts) → Parts
+followEffect closes place go = noParts (given place)
+followEffect (refuses n s) place go = noParts (refuse n s)
+followEffect (passes depth hole) place go = go depth hole
+followEffect (yields p) place go = partThen p (go 1 nowhere)
 
 -- of the lexemes from a place on; "or no end": 50 with 0-0, "where the list has ended"
 abbrev pub partsFrom : (place depth : ℕ) (hole : Span) → List Lexeme → Parts
 partsFrom place depth hole [] = noParts (refuse NoString nowhere)
-partsFrom place depth hole (l ∷ ls) = followTurn (turn depth hole l) place (λ d h. partsFrom (suc place) d h ls)
+partsFrom place depth hole (l ∷ ls) = followEffect (effect depth hole l) place (λ d h. partsFrom (suc place) d h ls)
 
 -- "or a start that is no QuoteOpen, gives 50"
 unfoldable pub partsOf : (place : ℕ) → List Lexeme → Parts
@@ -77,10 +78,6 @@ inRoom room [] a = noParts a
 inRoom zero (p ∷ ps) a = noParts (refuse ListFull (p .at))
 inRoom (suc room) (p ∷ ps) a = partThen p (inRoom room ps a)
 
--- "The list ends at the smaller of its count and its places": its lexemes from a place on
-abbrev pub lexemesFrom : (kinds words : List ℕ) (count place : ℕ) → List Lexeme
-lexemesFrom ks ws count place = drop place (take count (lexemesIn ks ws))
-
 unfoldable pub partsIn : (room place : ℕ) → List Lexeme → Parts
 partsIn room place ls = inRoom room ((partsOf place ls) .found) ((partsOf place ls) .answer)
 
@@ -88,17 +85,15 @@ partsIn room place ls = inRoom room ((partsOf place ls) .found) ((partsOf place 
 pub record PartsCall : Type 0 where
   pub answer : Answer ℕ
   pub parts : ℕ
-  pub kinds : List ℕ
-  pub words : List ℕ
+  pub arrays : Arrays
 
-unfoldable pub partsCall : (kinds words : List ℕ) (count place : ℕ) (partKinds partWords : List ℕ) → PartsCall
-partsCall ks ws count place pks pws =
-    let p = partsIn (placesOf pks pws) place (lexemesFrom ks ws count place) in
-    record { answer = p .answer; parts = length (p .found); kinds = kindsWith (p .found) pks; words = wordsWith (p .found) pws }
+unfoldable pub partsCall : (list : Arrays) (count place : ℕ) (parts : Arrays) → PartsCall
+partsCall list count place parts =
+    let p = partsIn (arrayPlaces parts) place (lexemesFrom list count place) in
+    record { answer = p .answer; parts = length (p .found); arrays = holding (p .found) parts }
 
--- what a call leaves, where its answer, its count and the arrays after it are these
-pub record ListsParts (ks ws : List ℕ) (count place : ℕ) (pks pws : List ℕ) (answer : Answer ℕ) (parts : ℕ) (pks′ pws′ : List ℕ) : Type 0 where
-  pub answered : answer ≡ partsCall ks ws count place pks pws .answer
-  pub counted : parts ≡ partsCall ks ws count place pks pws .parts
-  pub kinds : pks′ ≡ partsCall ks ws count place pks pws .kinds
-  pub words : pws′ ≡ partsCall ks ws count place pks pws .words
+-- what a call leaves, where its answer, its count and the parts list after it are these
+pub record ListsParts (list : Arrays) (count place : ℕ) (parts : Arrays) (answer : Answer ℕ) (n : ℕ) (parts′ : Arrays) : Type 0 where
+  pub answered : answer ≡ partsCall list count place parts .answer
+  pub counted : n ≡ partsCall list count place parts .parts
+  pub listed : parts′ ≡ partsCall list count place parts .arrays

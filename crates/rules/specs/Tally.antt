@@ -1,6 +1,6 @@
 -- "The tally counts direct lexing calls accepted and refused, and their steps, one record for all; each number stops at 2^64 − 1."
 use Prim.Native.Nat.{ℕ, _+_, _-_, _^_, min}
-use Rattle.rules.specs.Spans.{Verdict, given, refused}
+use Rattle.rules.specs.Answers.{Verdict, given, refused}
 use Rattle.rules.specs.Lexing.{Lexed}
 
 pub record Tally : Type 0 where

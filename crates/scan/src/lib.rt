@@ -7,7 +7,7 @@
 ghost use mathlib.Core.Path.{_≡_};
 ghost use mathlib.Core.Bool.{cond, not};
 ghost use Prim.Native.Nat.{_+_, _-_, _≤_, min};
-ghost use lib.ListN.{length, drop, getD};
+ghost use lib.ListN.{length, drop};
 ghost use Rattle.rules.specs.Text.{is, run};
 ghost use Rattle.rules.specs.Bytes.{isDigit, isHexDigit, isNotLF, isWhitespace};
 ghost use Rattle.rules.specs.Step.{isDigitOrUnderscore};
@@ -23,16 +23,6 @@ pub enum Class {
     Control,
     Over127,
     Tail,
-}
-
-// The byte at `i`, and 0 past the end.
-pub fn byte_at(text: &[u8], i: usize) -> u8
-    ensures { λ r. ⌜ r ≡ getD (now (text .entry)) i 0 ⌝ }
-{
-    if i < text.len() {
-        return text[i];
-    }
-    0
 }
 
 pub fn is_digit(b: u8) -> bool
@@ -102,17 +92,8 @@ fn room(text: &[u8], least: usize) -> usize
     n - least
 }
 
-// `place` where something was found there, else `none`.
-fn place_if(found: bool, place: u8, none: u8) -> u8
-    ensures { λ r. ⌜ r ≡ cond found place none ⌝ }
-{
-    if found {
-        return place;
-    }
-    none
-}
-
-fn least(a: u8, b: u8) -> u8
+// The smaller of two bytes.
+fn smaller(a: u8, b: u8) -> u8
     ensures { λ r. ⌜ r ≡ min a b ⌝ }
 {
     if a < b {
@@ -130,7 +111,7 @@ fn line_first(text: &[u8], at: usize) -> usize
     let mut j = 0u8;
     while j < 64 {
         let b = text[at + j as usize];
-        first = least(place_if(b == b'\n', j, 64), first);
+        first = smaller(basics::pick(b == b'\n', j, 64), first);
         j += 1;
     }
     first as usize
@@ -182,7 +163,7 @@ fn inner_first(text: &[u8], at: usize, stop: u8) -> usize
     let mut j = 0u8;
     while j < 48 {
         let b = text[at + j as usize];
-        first = least(place_if(ends_inner(b, stop), j, 48), first);
+        first = smaller(basics::pick(ends_inner(b, stop), j, 48), first);
         j += 1;
     }
     first as usize

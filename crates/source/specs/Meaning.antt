@@ -4,7 +4,9 @@ use mathlib.Core.List.{List}
 use mathlib.Core.Option.{Option, none, some}
 use denote.Ref.{RefT, ptr, now}
 use Rattle.rules.specs.Refusals.{BadSpan, WrongForm}
-use Rattle.rules.specs.Spans.{Span as SpanRule, spanOf, nowhere, bytesAt, Refusal as RefusalRule, Answer, given, refused, refuse, resolved}
+use Rattle.rules.specs.Spans.{Span as SpanRule, spanOf, nowhere, bytesAt}
+use Rattle.rules.specs.Answers.{Refusal as RefusalRule, Answer, given, refused, refuse, Verdict as VerdictRule, accepted}
+use Rattle.rules.specs.Source.{resolved}
 use Rattle.source.specs.declared.Span.{Span}
 use Rattle.source.specs.declared.Note.{Note}
 use Rattle.source.specs.declared.Note.the-variants.{None, At}
@@ -13,6 +15,8 @@ use Rattle.source.specs.declared.Spanned.{Spanned}
 use Rattle.source.specs.declared.Spanned.the-variants.{Made, Refused}
 use Rattle.source.specs.declared.Length.{Length}
 use Rattle.source.specs.declared.Length.the-variants.{Bytes, Refused as NoLength}
+use Rattle.source.specs.declared.Verdict.{Verdict}
+use Rattle.source.specs.declared.Verdict.the-variants.{Accepted, Refused as Against}
 use Rattle.source.specs.declared.Inside.{Inside}
 use Rattle.source.specs.declared.Inside.the-variants.{Yes, Bad, Outside}
 
@@ -34,6 +38,10 @@ noteMeant (At s) = some (spanMeant s)
 
 abbrev pub refusalMeant : Refusal → RefusalRule
 refusalMeant r = record { number = r .number; at = spanMeant (r .at); note = noteMeant (r .note) }
+
+abbrev pub verdictMeant : Verdict → VerdictRule
+verdictMeant Accepted = accepted
+verdictMeant (Against r) = refused (refusalMeant r)
 
 -- of a span and the text that it was held against
 abbrev pub insideMeant : Inside → List ℕ → SpanRule → Answer (List ℕ)

@@ -5,12 +5,15 @@
 
 // Types for dealing with input source code.
 ghost use mathlib.Core.Path.{_≡_};
-ghost use Prim.Native.Nat.{min, max, _^_, _<_};
+ghost use Prim.Native.Nat.{_^_, _<_};
 ghost use mathlib.Core.Bool.{not, _&&_};
 ghost use lib.Dec.{eqb};
 ghost use denote.Ref.{ptr};
-ghost use Rattle.rules.specs.Spans.{span, nowhere as nowhereRule, refusal, isBad, newSpan, lenOf, trimStart, trimEnd, untilOf, unionOf, resolved};
+ghost use Rattle.rules.specs.Spans.{span, nowhere as nowhereRule, isBad};
+ghost use Rattle.rules.specs.Answers.{refusal};
+ghost use Rattle.rules.specs.Source.{newSpan, lenOf, trimStart, trimEnd, untilOf, unionOf, resolved};
 ghost use Rattle.source.specs.Meaning.{spanMeant, refusalMeant, spannedMeant, lengthMeant, insideMeant, partOf, resolvedAt};
+use rules::LIMIT;
 
 // Marks a location in a source file by byte offset. Packed, from the least significant bit: 48 bits start offset, 48 bits end offset, 32 bits document id.
 pub struct Span {
@@ -49,6 +52,12 @@ pub enum Note {
     At(Span),
 }
 
+// Nothing is said against it, or a refusal.
+pub enum Verdict {
+    Accepted,
+    Refused(Refusal),
+}
+
 // "elsewhere 0-0 is two zero words"
 pub fn nowhere() -> Span
     ensures { λ r. ⌜ spanMeant r ≡ nowhereRule ⌝ }
@@ -81,7 +90,7 @@ impl Span {
         if end < start {
             return Spanned::Refused;
         }
-        if 0xffff_ffff_ffff < end {
+        if LIMIT < end {
             return Spanned::Refused;
         }
         Spanned::Made(Span::pack(doc, start, end))
@@ -166,7 +175,7 @@ impl Span {
         if e < s {
             return Spanned::Refused;
         }
-        Spanned::Made(Span::pack(self.doc(), s + least(n, e - s), e))
+        Spanned::Made(Span::pack(self.doc(), s + basics::least(n, e - s), e))
     }
 
     // Delete n bytes from the end of the span.
@@ -178,7 +187,7 @@ impl Span {
         if e < s {
             return Spanned::Refused;
         }
-        Spanned::Made(Span::pack(self.doc(), s, e - least(n, e - s)))
+        Spanned::Made(Span::pack(self.doc(), s, e - basics::least(n, e - s)))
     }
 
     // Whether two spans are of one document and neither has its start after its end.
@@ -211,8 +220,8 @@ impl Span {
         }
         Spanned::Made(Span::pack(
             self.doc(),
-            least(self.start(), other.start()),
-            most(self.end(), other.end()),
+            basics::least(self.start(), other.start()),
+            basics::greater(self.end(), other.end()),
         ))
     }
 }
@@ -232,16 +241,4 @@ pub fn resolve(text: &[u8], span: Span) -> &[u8]
         return &text[none..none];
     }
     &text[s..e]
-}
-
-fn least(a: usize, b: usize) -> usize
-    ensures { λ r. ⌜ r ≡ min a b ⌝ }
-{
-    if a < b { a } else { b }
-}
-
-fn most(a: usize, b: usize) -> usize
-    ensures { λ r. ⌜ r ≡ max a b ⌝ }
-{
-    if a < b { b } else { a }
 }

@@ -4,7 +4,7 @@ use Prim.Native.Char.{Char, code}
 use native.Mathlib.Numerals.{add-one}
 use native.Mathlib.Omega.{arith}
 use mathlib.Core.Path.{_≡_, refl, sym, _∙_}
-use mathlib.Core.Bool.{Bool, true, false, _&&_, _||_, false≢true}
+use mathlib.Core.Bool.{Bool, true, _&&_, _||_}
 use mathlib.Core.List.{List}
 use borrow.Author.Tests.{le-leb, lt-leb, leb-true, leb-false}
 use lib.Dec.{leb}
@@ -14,12 +14,7 @@ use lib.Seq.{drop-cons}
 use Rattle.rules.specs.Text.{within, all}
 use Rattle.rules.specs.Bytes.{isDigit, isHexDigit, isCapital}
 use Rattle.rules.specs.Escapes.{hexDigit, hexFrom}
-use Rattle.rules.proofs.Text.{decide, either}
-
--- of two tests that pass, each passes
-pub both : (a b : Bool) → a && b ≡ true → (a ≡ true) × (b ≡ true)
-both true b e = (refl, e)
-both false b e = absurd (false≢true e)
+use Rattle.rules.proofs.Text.{decide, either, both}
 
 -- every byte from a place on passes where the one there does and every byte after it
 pub all-more : (p : ℕ → Bool) (w : List ℕ) (i : ℕ) → i < length w → all p (drop i w) ≡ p (getD w i 0) && all p (drop (i + 1) w)

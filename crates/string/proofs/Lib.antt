@@ -1,5 +1,9 @@
 -- a test at every byte, and hex digits
 pub mod Digits
--- escapes and the bytes of a scalar value
-pub mod Encoded
+-- escapes
+pub mod Escapes
+-- lines and the indent
 pub mod Lines
+pub mod Dedenting
+-- the bytes that a part stands for
+pub mod PartBytes

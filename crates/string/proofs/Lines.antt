@@ -6,19 +6,19 @@ use native.Mathlib.Omega.{arith}
 use mathlib.Core.Path.{_≡_, refl, sym, ap, _∙_}
 use mathlib.Core.Bool.{Bool, true, false, cond, not, _&&_, false≢true}
 use mathlib.Core.List.{List, [], _∷_, _++_, append-nil}
-use mathlib.Core.Option.{none, some}
 use lib.Dec.{leb}
 use lib.ListN.{length, take, drop, length-take, length-drop}
 use borrow.Author.Tests.{eq-eqb, ne-eqb}
 use lib.Seq.{take-take, take-length}
 use Rattle.rules.specs.Text.{begins}
 use Rattle.rules.specs.Refusals.{BadSpan, WrongForm}
-use Rattle.rules.specs.Spans.{Refusal, Answer, given, refused, refuse, Verdict, accepted, nowhere, isBad, bytesAt, resolved}
+use Rattle.rules.specs.Spans.{nowhere, isBad, bytesAt}
+use Rattle.rules.specs.Answers.{Refusal, Answer, given, refused, refuse, Verdict, accepted, andThen, firstRefusal}
+use Rattle.rules.specs.Source.{resolved}
 use Rattle.rules.specs.Kinds.{StringInner, HoleOpen, between}
-use Rattle.rules.specs.Lexing.{Lexeme, lexemesIn}
-use Rattle.rules.specs.Indent.{andThen, firstRefusal, partVerdict, isStringPart, spacesAfter, isBlankLine, stringNext, indentsOf, fewest, indentOf, indentCall}
+use Rattle.rules.specs.Lent.{Lexeme, lexemesIn, arrays}
+use Rattle.rules.specs.Indent.{partVerdict, isStringPart, spacesAfter, isBlankLine, stringNext, indentsOf, fewest, indentOf, indentCall}
 use Rattle.list.specs.Entries.{firstOf}
-use Rattle.cst.specs.Meaning.{ifPart}
 use Rattle.string.specs.Meaning.{partChecked}
 use Rattle.string.specs.Indents.{fewestMeant, lineIndents, partIndents, fewer}
 use Rattle.string.specs.declared.Fewest.{Fewest}
@@ -91,33 +91,6 @@ part-refused text p r h = by (partVerdict text p) h
     by (given u) e = let w : _≡_ {A = ℕ} 0 1 = cc in absurd (omega arith)
     by (refused s) e = cc
 
--- a lexeme that is a part has a part's kind
-pub is-part-kind : (l q : Lexeme) → some q ≡ ifPart l → between StringInner HoleOpen (l .kind) ≡ true
-unfolding ifPart
-is-part-kind l q h = by (between StringInner HoleOpen (l .kind)) h
-  where
-    by : (b : Bool) → some q ≡ cond b (some l) none → b ≡ true
-    by true e = refl
-    by false e = let w : _≡_ {A = ℕ} 0 1 = cc in absurd (omega arith)
-
--- and is that part
-pub is-part-same : (l q : Lexeme) → some q ≡ ifPart l → q ≡ l
-unfolding ifPart
-is-part-same l q h = by (between StringInner HoleOpen (l .kind)) h
-  where
-    by : (b : Bool) → some q ≡ cond b (some l) none → q ≡ l
-    by true e = cc
-    by false e = let w : _≡_ {A = ℕ} 0 1 = cc in absurd (omega arith)
-
--- a lexeme that is no part has no part's kind
-pub no-part-kind : (l : Lexeme) → none ≡ ifPart l → between StringInner HoleOpen (l .kind) ≡ false
-unfolding ifPart
-no-part-kind l h = by (between StringInner HoleOpen (l .kind)) h
-  where
-    by : (b : Bool) → none ≡ cond b (some l) none → b ≡ false
-    by true e = let w : _≡_ {A = ℕ} 0 1 = cc in absurd (omega arith)
-    by false e = refl
-
 -- whether the next part is a String is read off the first of those that follow
 pub next-first : (ps : List Lexeme) → stringNext ps ≡ isStringPart (firstOf ps)
 next-first [] = refl
@@ -152,7 +125,7 @@ abbrev pub indentFrom : List ℕ → (before : List ℕ) → List Lexeme → Ans
 indentFrom text ns ps = andThen (firstRefusal (partVerdict text) ps) (given (fewest (ns ++ indentsOf text ps)))
 
 -- the call starts with its first part and none before it
-pub indent-start : (text ks ws : List ℕ) (count : ℕ) → let ls = lexemesIn ks ws in indentCall text ks ws count ≡ indentFrom text [] (take (length (take count ls)) ls)
+pub indent-start : (text ks ws : List ℕ) (count : ℕ) → let ls = lexemesIn ks ws in indentCall text (arrays ks ws) count ≡ indentFrom text [] (take (length (take count ls)) ls)
 unfolding indentCall indentOf
 indent-start text ks ws count =
     let ls = lexemesIn ks ws in

@@ -1,15 +1,9 @@
 -- What the answers mean: the paper's number and values for each case.
-use Prim.Native.Nat.{ℕ, _+_}
-use mathlib.Core.Path.{_≡_}
-use mathlib.Core.Bool.{cond}
+use Prim.Native.Nat.{ℕ}
 use mathlib.Core.List.{List}
-use lib.Dec.{leb}
-use lib.ListN.{length}
-use Rattle.rules.specs.Utf8.{encode}
-use Rattle.rules.specs.Output.{endOf, overwritten}
-use Rattle.rules.specs.Indent.{andThen, partVerdict}
-use Rattle.rules.specs.Spans.{Answer, given, refused}
-use Rattle.rules.specs.Lexing.{Lexeme}
+use Rattle.rules.specs.Answers.{andThen, Answer, given, refused}
+use Rattle.rules.specs.Lent.{Lexeme}
+use Rattle.rules.specs.Indent.{partVerdict}
 use Rattle.source.specs.Meaning.{refusalMeant}
 use Rattle.cst.specs.Meaning.{partMeant}
 use Rattle.string.specs.declared.Decoded.{Decoded}
@@ -40,11 +34,6 @@ checkedMeant (NotChecked r) = refused (refusalMeant r)
 -- a part that nothing is said against
 unfoldable pub partChecked : List ℕ → Lexeme → Answer Lexeme
 partChecked text p = andThen (partVerdict text p) (given p)
-
--- the UTF-8 of a scalar value at a position, whole or not: how many bytes, and the output after it
-pub record PutScalar (u at : ℕ) (out : List ℕ) (n : ℕ) (out′ : List ℕ) : Type 0 where
-  pub bytes : n ≡ cond (leb (at + length (encode u)) (endOf out)) (length (encode u)) 0
-  pub output : out′ ≡ cond (leb (at + length (encode u)) (endOf out)) (overwritten out at (encode u)) out
 
 -- a refusal, as an answer of another kind
 abbrev pub orSpaces : Answer Lexeme → Answer ℕ

@@ -7,8 +7,8 @@
 ghost use mathlib.Core.Path.{_≡_};
 ghost use lib.ListN.{take, drop};
 ghost use Rattle.rules.specs.Text.{begins};
-ghost use Rattle.rules.specs.Spans.{given};
-ghost use Rattle.rules.specs.Lexing.{lexemesIn};
+ghost use Rattle.rules.specs.Answers.{given};
+ghost use Rattle.rules.specs.Lent.{lexemesIn, arrays};
 ghost use Rattle.rules.specs.Indent.{spacesAfter, stringNext, fewest, indentCall};
 ghost use Rattle.list.specs.Entries.{entryMeant};
 ghost use Rattle.cst.specs.Meaning.{partMeant};
@@ -17,9 +17,11 @@ ghost use Rattle.string.specs.Indents.{fewestMeant, lineIndents, partInd
 use crate::Checked;
 use crate::Fewest;
 use crate::Indented;
-use cst::Known;
+use cst::AsPart;
 use cst::StringPart;
 use list::Entry;
+use rules::kind;
+use rules::refusal;
 
 // "Refusals per part, in order: 3, then 40 for a kind outside 10 to 14 or a span outside the text."
 pub fn check(text: &[u8], entry: Entry) -> Checked
@@ -27,14 +29,14 @@ pub fn check(text: &[u8], entry: Entry) -> Checked
 {
     let span = entry.at;
     if span.is_bad() {
-        return Checked::Refused(source::refuse(3, source::nowhere()));
+        return Checked::Refused(source::refuse(refusal::BAD_SPAN, source::nowhere()));
     }
     let known = cst::part(entry);
-    let Known::Part(part) = known else {
-        return Checked::Refused(source::refuse(40, span));
+    let AsPart::Part(part) = known else {
+        return Checked::Refused(source::refuse(refusal::WRONG_FORM, span));
     };
     if text.len() < span.end() {
-        return Checked::Refused(source::refuse(40, span));
+        return Checked::Refused(source::refuse(refusal::WRONG_FORM, span));
     }
     Checked::Part(part)
 }
@@ -118,7 +120,7 @@ fn is_string_at(kinds: &[u8], words: &[u64], end: usize, place: usize) -> bool
         return false;
     }
     let entry = list::get(kinds, words, place);
-    entry.kind == 10
+    entry.kind == kind::STRING_INNER
 }
 
 fn found(spaces: Fewest) -> Indented
@@ -147,7 +149,7 @@ pub fn count_common_leading_spaces(
     words: &[u64],
     count: usize,
 ) -> Indented
-    ensures { λ r. ⌜ indentedMeant r ≡ indentCall (now (text .entry)) (now (kinds .entry)) (now (words .entry)) count ⌝ }
+    ensures { λ r. ⌜ indentedMeant r ≡ indentCall (now (text .entry)) (arrays (now (kinds .entry)) (now (words .entry))) count ⌝ }
 {
     let end = list::end(kinds, words, count);
     let mut i: usize = 0;

@@ -7,6 +7,7 @@
 mod hex;
 mod leading;
 mod names;
+mod part_bytes;
 mod unescape;
 
 use cst::StringPart;
@@ -15,6 +16,11 @@ pub use leading::count_common_leading_spaces;
 pub use leading::leading_spaces;
 pub use leading::starts_line;
 pub use names::is_identifier;
+pub use part_bytes::line_byte;
+pub use part_bytes::line_length;
+pub use part_bytes::part_byte;
+pub use part_bytes::part_length;
+pub use part_bytes::taken_off;
 use source::Refusal;
 pub use unescape::scalar_value;
 pub use unescape::unescape_into;

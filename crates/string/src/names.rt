@@ -54,5 +54,5 @@ pub fn is_identifier(bytes: &[u8]) -> bool
         return false;
     }
     // If it satisfied all the above, then the only reason not to be an identifier is if there is a keyword with that name.
-    !lexer::is_keyword(bytes)
+    !sublexers::is_keyword(bytes)
 }

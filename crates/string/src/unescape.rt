@@ -5,18 +5,24 @@
 
 // Escape sequences: the scalar value of one, and writing it.
 ghost use mathlib.Core.Path.{_≡_};
-ghost use mathlib.Core.Bool.{true, cond};
+ghost use Prim.Native.Nat.{_≤_};
+ghost use mathlib.Core.Bool.{true};
+ghost use lib.ListN.{length};
 ghost use Rattle.rules.specs.Text.{all};
 ghost use Rattle.rules.specs.Bytes.{isHexDigit};
-ghost use Rattle.rules.specs.Utf8.{isScalar};
-ghost use Rattle.rules.specs.Spans.{refuse};
+ghost use Rattle.rules.specs.Answers.{refuse};
 ghost use Rattle.rules.specs.Escapes.{isSingle, isUnicode4, isUnicodeDelim, singleScalar, unicodeScalar, scalarOf, escapeScalar, Unescapes};
 ghost use Rattle.source.specs.Meaning.{spanMeant};
-ghost use Rattle.string.specs.Meaning.{decodedMeant, unescapedMeant, PutScalar};
+ghost use Rattle.output.specs.Places.{Put};
+ghost use Rattle.utf8.specs.Meaning.{encodedMeant};
+ghost use Rattle.string.specs.Meaning.{decodedMeant, unescapedMeant};
 use crate::Decoded;
 use crate::Unescaped;
 use crate::hex;
+use rules::kind;
+use rules::refusal;
 use source::Span;
+use utf8::Encoded;
 
 fn refused(number: u8, span: Span) -> Decoded
     ensures { λ r. ⌜ decodedMeant r ≡ refuse number (spanMeant span) ⌝ }
@@ -43,16 +49,9 @@ fn unescape_single(span: Span, ch: u8) -> Decoded
         // } never needs to be escaped, but for symmetry with { we allow it.
         b'}' => Decoded::Scalar(0x7D),
         // Escape sequences are written lowercase.
-        b'A'..=b'Z' => refused(42, span),
-        _ => refused(41, span),
+        b'A'..=b'Z' => refused(refusal::CAPITAL_ESCAPE, span),
+        _ => refused(refusal::UNKNOWN_ESCAPE, span),
     }
-}
-
-// Not a surrogate, and not over 0x10FFFF.
-fn is_scalar(u: u32) -> bool
-    ensures { λ r. ⌜ r ≡ isScalar u ⌝ }
-{
-    (u < 0xD800) | (0xE000 <= u) & (u <= 0x10FFFF)
 }
 
 fn unescape_unicode(span: Span, digits: &[u8]) -> Decoded
@@ -60,14 +59,14 @@ fn unescape_unicode(span: Span, digits: &[u8]) -> Decoded
     ensures { λ r. ⌜ decodedMeant r ≡ unicodeScalar (spanMeant span) (now (digits .entry)) ⌝ }
 {
     if digits.len() == 0 {
-        return refused(43, span);
+        return refused(refusal::NO_DIGITS, span);
     }
     if 6 < digits.len() {
-        return refused(44, span);
+        return refused(refusal::MANY_DIGITS, span);
     }
     let u = hex::hex_value(digits);
-    if !is_scalar(u) {
-        return refused(45, span);
+    if !utf8::is_scalar(u) {
+        return refused(refusal::NOT_SCALAR, span);
     }
     Decoded::Scalar(u)
 }
@@ -125,25 +124,25 @@ fn is_unicode_delim(bytes: &[u8]) -> bool
 fn scalar_of(span: Span, kind: u8, bytes: &[u8]) -> Decoded
     ensures { λ r. ⌜ decodedMeant r ≡ scalarOf (spanMeant span) kind (now (bytes .entry)) ⌝ }
 {
-    if kind == 11 {
+    if kind == kind::SINGLE {
         if !is_single(bytes) {
-            return refused(40, span);
+            return refused(refusal::WRONG_FORM, span);
         }
         return unescape_single(span, bytes[1]);
     }
-    if kind == 12 {
+    if kind == kind::UNICODE4 {
         if !is_unicode4(bytes) {
-            return refused(40, span);
+            return refused(refusal::WRONG_FORM, span);
         }
         return unescape_unicode(span, &bytes[2..]);
     }
-    if kind == 13 {
+    if kind == kind::UNICODE_DELIM {
         if !is_unicode_delim(bytes) {
-            return refused(40, span);
+            return refused(refusal::WRONG_FORM, span);
         }
         return unescape_unicode(span, &bytes[3..bytes.len() - 1]);
     }
-    refused(40, span)
+    refused(refusal::WRONG_FORM, span)
 }
 
 // The scalar value of an escape sequence of a text: 3, 40, 43, 44, 45, 41, 42.
@@ -151,54 +150,29 @@ pub fn scalar_value(text: &[u8], span: Span, kind: u8) -> Decoded
     ensures { λ r. ⌜ decodedMeant r ≡ escapeScalar (now (text .entry)) (spanMeant span) kind ⌝ }
 {
     if span.is_bad() {
-        return refused(3, source::nowhere());
+        return refused(refusal::BAD_SPAN, source::nowhere());
     }
     let start = span.start();
     let end = span.end();
     if text.len() < end {
-        return refused(40, span);
+        return refused(refusal::WRONG_FORM, span);
     }
     scalar_of(span, kind, &text[start..end])
 }
 
-// Writes the UTF-8 of a scalar value, whole or not: how many bytes, 0 where it does not fit.
-fn put_scalar(u: u32, output: &mut [u8], position: usize) -> usize
-    requires { ⌜ isScalar u ≡ true ⌝ }
-    ensures { λ r. ⌜ PutScalar u position (now (output .entry)) r (now (output .exit)) ⌝ }
+// Writes the bytes of a character, whole or not. By its length, since a copy of a length that is known needs no loop.
+fn put_encoded(encoded: Encoded, output: &mut [u8], position: usize) -> bool
+    requires { ⌜ encoded .length ≤ length (encoded .bytes) ⌝ }
+    ensures { λ r. ⌜ Put (encodedMeant encoded) position (now (output .entry)) r (now (output .exit)) ⌝ }
 {
-    if u < 0x80 {
-        let bytes = [u as u8];
-        return if_put(output::put(&bytes, output, position), 1);
+    let bytes = encoded.bytes;
+    let n = encoded.length;
+    match n {
+        1 => output::put(&bytes[..1], output, position),
+        2 => output::put(&bytes[..2], output, position),
+        3 => output::put(&bytes[..3], output, position),
+        _ => output::put(&bytes[..n], output, position),
     }
-    if u < 0x800 {
-        let bytes = [(0xC0 + u / 64) as u8, (0x80 + u % 64) as u8];
-        return if_put(output::put(&bytes, output, position), 2);
-    }
-    if u < 0x10000 {
-        let bytes = [
-            (0xE0 + u / 4096) as u8,
-            (0x80 + u / 64 % 64) as u8,
-            (0x80 + u % 64) as u8,
-        ];
-        return if_put(output::put(&bytes, output, position), 3);
-    }
-    let bytes = [
-        (0xF0 + u / 262144) as u8,
-        (0x80 + u / 4096 % 64) as u8,
-        (0x80 + u / 64 % 64) as u8,
-        (0x80 + u % 64) as u8,
-    ];
-    if_put(output::put(&bytes, output, position), 4)
-}
-
-// A count, or 0.
-fn if_put(put: bool, bytes: usize) -> usize
-    ensures { λ r. ⌜ r ≡ cond put bytes 0 ⌝ }
-{
-    if put {
-        return bytes;
-    }
-    0
 }
 
 // Convert an escape sequence into the bytes it represents, at a position of the output: as `scalar_value`, then 46.
@@ -215,11 +189,11 @@ pub fn unescape_into(
     let Decoded::Scalar(u) = answer else {
         return not_decoded(answer);
     };
-    let bytes = put_scalar(u, output, position);
-    if bytes == 0 {
-        return Unescaped::Refused(source::refuse(46, span));
+    let encoded = utf8::encode(u);
+    if !put_encoded(encoded, output, position) {
+        return Unescaped::Refused(source::refuse(refusal::OUTPUT_FULL, span));
     }
-    Unescaped::Bytes(bytes)
+    Unescaped::Bytes(encoded.length)
 }
 
 // The refusal of an escape sequence that has no scalar value.

@@ -1,11 +1,13 @@
 // The tally: direct lexing calls accepted and refused, and their steps, one record for all. Each number stops at 2^64 − 1.
 ghost use mathlib.Core.Path.{_≡_};
+ghost use Rattle.rules.specs.Lent.{lent};
 ghost use Rattle.rules.specs.Lexing.{Lexes};
 ghost use Rattle.rules.specs.Tally.{fresh as freshRule, plus as plusRule, tallied as talliedRule, afterCall};
-ghost use Rattle.lexer.specs.Results.{answerMeant, lexedMeant};
+ghost use Rattle.source.specs.Meaning.{verdictMeant};
+ghost use Rattle.lexer.specs.Results.{lexedMeant};
 ghost use Rattle.tally.specs.Meaning.{tallyMeant};
-use lexer::Answer;
 use lexer::Lexed;
+use source::Verdict;
 
 pub struct Tally {
     pub accepted: u64,
@@ -40,11 +42,11 @@ fn plus(a: u64, b: u64) -> u64
 }
 
 // The tally after one more lexing call.
-pub fn tallied(t: Tally, answer: Answer, steps: u64) -> Tally
-    ensures { λ r. ⌜ tallyMeant r ≡ talliedRule (tallyMeant t) (answerMeant answer) steps ⌝ }
+pub fn tallied(t: Tally, answer: Verdict, steps: u64) -> Tally
+    ensures { λ r. ⌜ tallyMeant r ≡ talliedRule (tallyMeant t) (verdictMeant answer) steps ⌝ }
 {
     let all = plus(t.steps, steps);
-    if let Answer::Refused(_) = answer {
+    if let Verdict::Refused(_) = answer {
         return Tally {
             accepted: t.accepted,
             refused: plus(t.refused, 1),
@@ -68,7 +70,7 @@ pub fn lex_tallied(
     skinds: &mut [u8],
     swords: &mut [u64],
 ) -> Counted
-    ensures { λ r. ⌜ Lexes doc (now (text .entry)) (now (kinds .entry)) (now (words .entry)) (now (skinds .entry)) (now (swords .entry)) (lexedMeant (r .lexed)) (now (kinds .exit)) (now (words .exit)) (now (skinds .exit)) (now (swords .exit)) ⌝ }
+    ensures { λ r. ⌜ Lexes doc (now (text .entry)) (lent (now (kinds .entry)) (now (words .entry))) (lent (now (skinds .entry)) (now (swords .entry))) (lexedMeant (r .lexed)) (lent (now (kinds .exit)) (now (words .exit))) (lent (now (skinds .exit)) (now (swords .exit))) ⌝ }
     ensures { λ r. ⌜ tallyMeant (r .tally) ≡ afterCall (tallyMeant t) (lexedMeant (r .lexed)) ⌝ }
 {
     let lexed = lexer::lex(doc, text, kinds, words, skinds, swords);

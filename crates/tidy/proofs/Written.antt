@@ -1,61 +1,23 @@
--- Laws of the gaps, and of the pieces of a list as they are written one after another.
+-- Laws of the pieces of a list as they are written one after another.
 use Prim.Native.Nat.{ℕ, _+_, _≤_, _<_}
 use native.Mathlib.Nat.{zero-add}
 use native.Mathlib.Omega.{arith}
 use mathlib.Core.Path.{_≡_, refl, sym, ap, _∙_}
-use mathlib.Core.Bool.{Bool, true, false, cond, _&&_, _||_}
+use mathlib.Core.Bool.{true, false}
 use mathlib.Core.List.{List, [], _∷_, _++_, append-assoc, append-nil}
-use lib.Dec.{leb, eqb}
 use lib.ListN.{length, drop, length-append, drop-of-length-le}
-use borrow.Author.Tests.{eqb-true, eqb-false, le-leb, lt-leb, leb-true, leb-false}
-use Rattle.rules.specs.Text.{ascii}
 use Rattle.rules.specs.Refusals.{OutputFull}
-use Rattle.rules.specs.Spans.{Verdict, limit, resolved, accepted, refuse}
-use Rattle.rules.specs.Kinds.{Blank, Shebang, LineComment, StringInner, HoleClose, isQuoteOpen, isEscape}
-use Rattle.rules.specs.Lexing.{Lexeme}
-use Rattle.rules.specs.Output.{endOf, Written, chunk, written, overwritten}
+use Rattle.rules.specs.Spans.{limit}
+use Rattle.rules.specs.Answers.{Verdict, accepted, refuse}
+use Rattle.rules.specs.Source.{resolved}
+use Rattle.rules.specs.Kinds.{Blank}
+use Rattle.rules.specs.Lent.{Lexeme}
+use Rattle.rules.specs.Output.{endOf, Written, piece, written, overwritten}
 use Rattle.rules.specs.Tidy.{gap}
-use Rattle.rules.proofs.Text.{decide}
 use Rattle.source.specs.Meaning.{partOf}
 use Rattle.output.specs.Places.{Put}
 use Rattle.output.proofs.Overwritten.{end-within, end-limit, end-overwritten, overwritten-nothing, overwritten-length, overwritten-two, put-true, put-false, written-fits, written-stops, written-nothing}
-use Rattle.tidy.specs.Pieces.{joinsNext, piecesAfter, WritesPieces}
-
--- the kinds from 10 to 13 are StringInner and the escapes
-inner-or-escape : (k : ℕ) → leb 10 k && leb k 13 ≡ eqb k StringInner || isEscape k
-inner-or-escape k = decide (eqb k 10)
-    (λ e. rw (eqb-true k 10 e) refl)
-    (λ e. decide (leb 11 k)
-    (λ f. rw (e, f, le-leb 10 k (omega (arith, leb-true 11 k f))) refl)
-    (λ f. rw (e, f, lt-leb 10 k (less k (eqb-false k 10 e) (leb-false 11 k f))) refl))
-  where
-    less : (k : ℕ) → (k ≡ 10 → ⊥) → k < 11 → k < 10
-    less k n h = omega (arith, n, h)
-
--- the kinds that the string goes on after, by their numbers
-pub joins-range : (k : ℕ) → leb 5 k && leb k 8 || leb 10 k && leb k 13 || eqb k 15 ≡ joinsNext k
-unfolding joinsNext
-joins-range k = rw (inner-or-escape k) (four (isQuoteOpen k) (eqb k StringInner) (isEscape k) (eqb k HoleClose))
-  where
-    four : (a b c d : Bool) → a || (b || c) || d ≡ a || b || c || d
-    four true b c d = refl
-    four false b c d = refl
-
--- the gap, where one test says what the string goes on after
-pub gap-joins : (a b : ℕ) → gap a b ≡ cond (eqb a Blank || eqb b Blank || joinsNext a) [] (cond (eqb a Shebang || eqb a LineComment) (ascii "\n") (ascii " "))
-unfolding gap joinsNext
-gap-joins a b =
-    rw (five (eqb a Blank || eqb b Blank) (isQuoteOpen a) (eqb a StringInner) (isEscape a) (eqb a HoleClose), two (eqb a LineComment) (eqb a Shebang)) refl
-  where
-    five : (a b c d e : Bool) → a || b || c || d || e ≡ a || (b || c || d || e)
-    five true b c d e = refl
-    five false b c d e = refl
-
-    two : (a b : Bool) → a || b ≡ b || a
-    two true true = refl
-    two true false = refl
-    two false true = refl
-    two false false = refl
+use Rattle.tidy.specs.Pieces.{piecesAfter, WritesPieces}
 
 -- what is to be written of all lexemes of a list
 abbrev pub allOf : (text : List ℕ) → List Lexeme → (out : List ℕ) → Written
@@ -87,8 +49,8 @@ writing-end-same : {text : List ℕ} {ls : List Lexeme} {out now : List ℕ} {i 
 writing-end-same {text} {ls} {out} w = ap endOf (w .output) ∙ end-overwritten out 0 (w .before) (omega (arith, w .size, w .room, end-within out))
 
 -- a piece that is written ends within the limit
-pub put-limit : {piece : List ℕ} {at : ℕ} {out out′ : List ℕ} → Put piece at out true out′ → at + length piece ≤ limit
-put-limit {piece} {at} {out} put = omega (arith, put-true put .0, end-limit out)
+pub put-limit : {bytes : List ℕ} {at : ℕ} {out out′ : List ℕ} → Put bytes at out true out′ → at + length bytes ≤ limit
+put-limit {bytes} {at} {out} put = omega (arith, put-true put .0, end-limit out)
 
 -- a piece: the gap after a lexeme of a kind, and the lexeme
 abbrev pub pieceOf : (text : List ℕ) (first : ℕ) → Lexeme → List ℕ
@@ -98,21 +60,21 @@ pieceOf text first l = gap first (l .kind) ++ partOf (resolved text (l .at))
 pub writing-on : {text : List ℕ} {ls : List Lexeme} {out now now′ : List ℕ} {i at first : ℕ} (l : Lexeme) (next : ℕ) → Writing text ls out now i at first → drop i ls ≡ l ∷ drop (i + 1) ls
     → Put (pieceOf text first l) at now true now′ → next ≡ at + length (pieceOf text first l) → Writing text ls out now′ (i + 1) next (l .kind)
 writing-on {text} {ls} {out} {now} {now′} {i} {at} {first} l next w here put e =
-    let piece : List ℕ = pieceOf text first l in
-    let p : (at + length piece ≤ endOf now) × (now′ ≡ overwritten now at piece) = put-true put in
-    let fits : at + length piece ≤ endOf out = rw (writing-end-same w) at (p .0) in
-    let on : restOf text ls out i at first ≡ record { bytes = piece ++ restOf text ls out (i + 1) (at + length piece) (l .kind) .bytes; verdict = restOf text ls out (i + 1) (at + length piece) (l .kind) .verdict } =
-    rw here (written-fits (endOf out) at (chunk piece (l .at)) (piecesAfter text (l .kind) (drop (i + 1) ls)) fits) in
-    let both : overwritten (overwritten out 0 (w .before)) (length (w .before)) piece ≡ overwritten out 0 (w .before ++ piece) =
-    ap (λ (n : ℕ). overwritten (overwritten out 0 (w .before)) n piece) (sym (zero-add (length (w .before))))
-    ∙ overwritten-two out 0 (w .before) piece (omega (arith, w .size, fits, end-within out)) in
+    let bytes : List ℕ = pieceOf text first l in
+    let p : (at + length bytes ≤ endOf now) × (now′ ≡ overwritten now at bytes) = put-true put in
+    let fits : at + length bytes ≤ endOf out = rw (writing-end-same w) at (p .0) in
+    let on : restOf text ls out i at first ≡ record { bytes = bytes ++ restOf text ls out (i + 1) (at + length bytes) (l .kind) .bytes; verdict = restOf text ls out (i + 1) (at + length bytes) (l .kind) .verdict } =
+    rw here (written-fits (endOf out) at (piece bytes (l .at)) (piecesAfter text (l .kind) (drop (i + 1) ls)) fits) in
+    let both : overwritten (overwritten out 0 (w .before)) (length (w .before)) bytes ≡ overwritten out 0 (w .before ++ bytes) =
+    ap (λ (n : ℕ). overwritten (overwritten out 0 (w .before)) n bytes) (sym (zero-add (length (w .before))))
+    ∙ overwritten-two out 0 (w .before) bytes (omega (arith, w .size, fits, end-within out)) in
     rw e
     (record {
-      before = w .before ++ piece;
-      size = length-append (w .before) piece ∙ ap (λ (n : ℕ). n + length piece) (w .size);
+      before = w .before ++ bytes;
+      size = length-append (w .before) bytes ∙ ap (λ (n : ℕ). n + length bytes) (w .size);
       room = fits;
       output = p .1 ∙ rw (w .output, ← w .size) both;
-      bytes = w .bytes ∙ ap (λ (r : Written). w .before ++ r .bytes) on ∙ sym (append-assoc (w .before) piece (restOf text ls out (i + 1) (at + length piece) (l .kind) .bytes));
+      bytes = w .bytes ∙ ap (λ (r : Written). w .before ++ r .bytes) on ∙ sym (append-assoc (w .before) bytes (restOf text ls out (i + 1) (at + length bytes) (l .kind) .bytes));
       verdict = w .verdict ∙ ap (λ (r : Written). r .verdict) on;
     })
 
@@ -130,10 +92,10 @@ writing-last {text} {ls} {out} {now} {i} {at} {first} v w last =
 pub writing-stop : {text : List ℕ} {ls : List Lexeme} {out now now′ : List ℕ} {i at first : ℕ} (l : Lexeme) → Writing text ls out now i at first → drop i ls ≡ l ∷ drop (i + 1) ls
     → Put (pieceOf text first l) at now false now′ → WritesPieces text ls out (refuse OutputFull (l .at)) at now′
 writing-stop {text} {ls} {out} {now} {now′} {i} {at} {first} l w here put =
-    let piece : List ℕ = pieceOf text first l in
-    let p : (endOf now < at + length piece) × (now′ ≡ now) = put-false put in
-    let full : endOf out < at + length piece = rw (writing-end-same w) at (p .0) in
-    rw (p .1) (writing-last (refuse OutputFull (l .at)) w (rw here (written-stops (endOf out) at (chunk piece (l .at)) (piecesAfter text (l .kind) (drop (i + 1) ls)) full)))
+    let bytes : List ℕ = pieceOf text first l in
+    let p : (endOf now < at + length bytes) × (now′ ≡ now) = put-false put in
+    let full : endOf out < at + length bytes = rw (writing-end-same w) at (p .0) in
+    rw (p .1) (writing-last (refuse OutputFull (l .at)) w (rw here (written-stops (endOf out) at (piece bytes (l .at)) (piecesAfter text (l .kind) (drop (i + 1) ls)) full)))
 
 -- behind the last piece
 pub writing-end : {text : List ℕ} {ls : List Lexeme} {out now : List ℕ} {i at first : ℕ} → Writing text ls out now i at first → length ls ≤ i → WritesPieces text ls out accepted at now

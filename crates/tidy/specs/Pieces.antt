@@ -1,25 +1,21 @@
 -- The pieces of a listed text, as the writing loop meets them.
 use Prim.Native.Nat.{ℕ}
 use mathlib.Core.Path.{_≡_}
-use mathlib.Core.Bool.{Bool, _||_}
 use mathlib.Core.List.{List, [], _∷_, _++_}
-use lib.Dec.{eqb}
 use lib.ListN.{length}
-use Rattle.rules.specs.Spans.{Verdict, resolved}
-use Rattle.rules.specs.Kinds.{Blank, StringInner, HoleClose, isQuoteOpen, isEscape}
-use Rattle.rules.specs.Lexing.{Lexeme, Lexed as LexedRule}
-use Rattle.rules.specs.Output.{Chunk, chunk, endOf, written, overwritten}
+use Rattle.rules.specs.Answers.{Verdict}
+use Rattle.rules.specs.Source.{resolved}
+use Rattle.rules.specs.Kinds.{Blank}
+use Rattle.rules.specs.Lent.{Lexeme}
+use Rattle.rules.specs.Lexing.{Lexed as LexedRule}
+use Rattle.rules.specs.Output.{Piece, piece, endOf, written, overwritten}
 use Rattle.rules.specs.Tidy.{gap}
 use Rattle.source.specs.Meaning.{partOf}
 
--- "the first is QuoteOpen, StringInner, Escape or HoleClose"
-unfoldable pub joinsNext : ℕ → Bool
-joinsNext k = isQuoteOpen k || eqb k StringInner || isEscape k || eqb k HoleClose
-
 -- "A gap and the lexeme after it are one piece": after a lexeme of a kind
-abbrev pub piecesAfter : List ℕ → (first : ℕ) → List Lexeme → List Chunk
+abbrev pub piecesAfter : List ℕ → (first : ℕ) → List Lexeme → List Piece
 piecesAfter text k [] = []
-piecesAfter text k (l ∷ ls) = chunk (gap k (l .kind) ++ partOf (resolved text (l .at))) (l .at) ∷ piecesAfter text (l .kind) ls
+piecesAfter text k (l ∷ ls) = piece (gap k (l .kind) ++ partOf (resolved text (l .at))) (l .at) ∷ piecesAfter text (l .kind) ls
 
 -- all of them, from the output's start
 pub record WritesPieces (text : List ℕ) (ls : List Lexeme) (out : List ℕ) (verdict : Verdict) (n : ℕ) (out′ : List ℕ) : Type 0 where

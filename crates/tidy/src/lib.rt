@@ -1,22 +1,15 @@
 // The tidy writer: a text's lexemes, with the gap rule's gaps between them.
 ghost use mathlib.Core.Path.{_≡_};
-ghost use mathlib.Core.List.{_++_};
-ghost use lib.ListN.{length, take};
-ghost use Rattle.rules.specs.Lexing.{lexemesIn};
-ghost use Rattle.rules.specs.Tidy.{gap as gapRule, Tidies};
-ghost use Rattle.output.specs.Places.{Put};
-ghost use Rattle.lexer.specs.Results.{answerMeant, lexedMeant};
-ghost use Rattle.tidy.specs.Gaps.{gapMeant};
-ghost use Rattle.tidy.specs.Pieces.{joinsNext, WritesPieces, answeredWith};
-use lexer::Answer;
+ghost use lib.ListN.{take};
+ghost use Rattle.rules.specs.Lent.{lexemesIn, lent};
+ghost use Rattle.rules.specs.Tidy.{Tidies};
+ghost use Rattle.source.specs.Meaning.{verdictMeant};
+ghost use Rattle.lexer.specs.Results.{lexedMeant};
+ghost use Rattle.tidy.specs.Pieces.{WritesPieces, answeredWith};
 use lexer::Lexed;
-
-// What stands between two lexemes.
-pub enum Gap {
-    Nothing,
-    LineEnd,
-    Space,
-}
+use rules::kind;
+use rules::refusal;
+use source::Verdict;
 
 // What lexing answered, or the writing after it, and how many bytes were written.
 pub struct Tidied {
@@ -26,53 +19,11 @@ pub struct Tidied {
 
 // What the writing answers, and how many bytes were written.
 pub struct Wrote {
-    pub answer: Answer,
+    pub answer: Verdict,
     pub bytes: usize,
 }
 
-// QuoteOpen, StringInner, Escape or HoleClose: what follows is the string's.
-fn joins(kind: u8) -> bool
-    ensures { λ r. ⌜ r ≡ joinsNext kind ⌝ }
-{
-    (5 <= kind) & (kind <= 8) | (10 <= kind) & (kind <= 13) | (kind == 15)
-}
-
-// "Between two: nothing if either is Blank or the first is QuoteOpen, StringInner, Escape or HoleClose; one LF after LineComment or Shebang; else one space."
-fn gap_between(first: u8, second: u8) -> Gap
-    ensures { λ r. ⌜ gapMeant r ≡ gapRule first second ⌝ }
-{
-    if (first == 1) | (second == 1) | joins(first) {
-        return Gap::Nothing;
-    }
-    if (first == 2) | (first == 3) {
-        return Gap::LineEnd;
-    }
-    Gap::Space
-}
-
-// Writes a gap and the lexeme after it, whole or not.
-fn put_piece(between: Gap, lexeme: &[u8], output: &mut [u8], position: usize) -> bool
-    ensures { λ r. ⌜ Put (gapMeant between ++ now (lexeme .entry)) position (now (output .entry)) r (now (output .exit)) ⌝ }
-{
-    match between {
-        Gap::Nothing => output::put(lexeme, output, position),
-        Gap::LineEnd => output::put_two(b"\n", lexeme, output, position),
-        Gap::Space => output::put_two(b" ", lexeme, output, position),
-    }
-}
-
-// How many bytes a gap has.
-fn gap_length(between: Gap) -> usize
-    ensures { λ r. ⌜ r ≡ length (gapMeant between) ⌝ }
-{
-    match between {
-        Gap::Nothing => 0,
-        Gap::LineEnd => 1,
-        Gap::Space => 1,
-    }
-}
-
-fn finish(answer: Answer, bytes: usize) -> Wrote
+fn finish(answer: Verdict, bytes: usize) -> Wrote
     ensures { λ r. ⌜ (r .answer ≡ answer) × (r .bytes ≡ bytes) ⌝ }
 {
     Wrote {
@@ -89,31 +40,34 @@ fn write_lexemes(
     lexemes: usize,
     output: &mut [u8],
 ) -> Wrote
-    ensures { λ r. ⌜ WritesPieces (now (text .entry)) (take lexemes (lexemesIn (now (kinds .entry)) (now (words .entry)))) (now (output .entry)) (answerMeant (r .answer)) (r .bytes) (now (output .exit)) ⌝ }
+    ensures { λ r. ⌜ WritesPieces (now (text .entry)) (take lexemes (lexemesIn (now (kinds .entry)) (now (words .entry)))) (now (output .entry)) (verdictMeant (r .answer)) (r .bytes) (now (output .exit)) ⌝ }
 {
     let end = list::end(kinds, words, lexemes);
     let mut i: usize = 0;
     let mut at: usize = 0;
-    let mut first: u8 = 1;
+    let mut first = kind::BLANK;
     while i < end {
         let entry = list::get(kinds, words, i);
         let second = entry.kind;
         let span = entry.at;
-        let between = gap_between(first, second);
+        let between = gap::gap_between(first, second);
         let lexeme = source::resolve(text, span);
-        if !put_piece(between, lexeme, output, at) {
-            return finish(Answer::Refused(source::refuse(46, span)), at);
+        if !gap::put_piece(between, lexeme, output, at) {
+            return finish(
+                Verdict::Refused(source::refuse(refusal::OUTPUT_FULL, span)),
+                at,
+            );
         }
-        at = at + gap_length(between) + lexeme.len();
+        at = at + gap::gap_length(between) + lexeme.len();
         first = second;
         i += 1;
     }
-    finish(Answer::Accepted, at)
+    finish(Verdict::Accepted, at)
 }
 
 // The result of lexing with another answer.
-fn answered(lexed: Lexed, answer: Answer) -> Lexed
-    ensures { λ r. ⌜ lexedMeant r ≡ answeredWith (answerMeant answer) (lexedMeant lexed) ⌝ }
+fn answered(lexed: Lexed, answer: Verdict) -> Lexed
+    ensures { λ r. ⌜ lexedMeant r ≡ answeredWith (verdictMeant answer) (lexedMeant lexed) ⌝ }
 {
     Lexed {
         answer: answer,
@@ -135,11 +89,11 @@ pub fn tidy(
     swords: &mut [u64],
     output: &mut [u8],
 ) -> Tidied
-    ensures { λ r. ⌜ Tidies doc (now (text .entry)) (now (kinds .entry)) (now (words .entry)) (now (skinds .entry)) (now (swords .entry)) (now (output .entry)) (lexedMeant (r .lexed)) (r .written) (now (kinds .exit)) (now (words .exit)) (now (skinds .exit)) (now (swords .exit)) (now (output .exit)) ⌝ }
+    ensures { λ r. ⌜ Tidies doc (now (text .entry)) (lent (now (kinds .entry)) (now (words .entry))) (lent (now (skinds .entry)) (now (swords .entry))) (now (output .entry)) (lexedMeant (r .lexed)) (r .written) (lent (now (kinds .exit)) (now (words .exit))) (lent (now (skinds .exit)) (now (swords .exit))) (now (output .exit)) ⌝ }
 {
     let lexed = lexer::lex(doc, text, kinds, words, skinds, swords);
     let answer = lexed.answer;
-    let Answer::Accepted = answer else {
+    let Verdict::Accepted = answer else {
         return Tidied {
             lexed: lexed,
             written: 0,

@@ -13,8 +13,8 @@ use Rattle.token.specs.declared.QuoteStyle.the-variants.{Double, Triple}
 use Rattle.token.specs.declared.Escape.the-variants.{Single, Unicode4, UnicodeDelim}
 use Rattle.token.specs.declared.State.{State}
 use Rattle.token.specs.declared.State.the-variants.{Brace, Paren, Bracket, String, Format, Hole}
-use Rattle.token.specs.declared.Known.{Known}
-use Rattle.token.specs.declared.Known.the-variants.{Token as KnownToken, Unknown}
+use Rattle.token.specs.declared.AsToken.{AsToken}
+use Rattle.token.specs.declared.AsToken.the-variants.{Token as KnownToken, Unknown}
 use Rattle.token.specs.declared.Opened.{Opened}
 use Rattle.token.specs.declared.Opened.the-variants.{State as OpenedState, NoOpener}
 use Rattle.token.specs.declared.Token.{Token}
@@ -100,7 +100,7 @@ pub codes-apart : (t u : Token) → codeOf t ≡ codeOf u → t ≡ u
 codes-apart t u e = sym (token-back t .0) ∙ ap tokenBy e ∙ token-back u .0
 
 -- what `token_of` ensures, at a token's code: its answer is that token
-pub token-of-code : (t : Token) (r : Known) → tokenMeant r ≡ ifKind (codeOf t) → r ≡ KnownToken t
+pub token-of-code : (t : Token) (r : AsToken) → tokenMeant r ≡ ifKind (codeOf t) → r ≡ KnownToken t
 unfolding tokenMeant
 token-of-code t (KnownToken u) e = ap KnownToken (codes-apart u t (cc (token-back t .1)))
 token-of-code t Unknown e = cc (token-back t .1)

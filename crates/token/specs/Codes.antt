@@ -1,8 +1,8 @@
 -- The kind code of each token and of each state's opener, by the paper's names.
 use Prim.Native.Nat.{ℕ}
-use mathlib.Core.Bool.{cond}
+use mathlib.Core.Bool.{Bool, cond, _||_}
 use mathlib.Core.Option.{Option, none, some}
-use lib.Dec.{leb}
+use lib.Dec.{leb, eqb}
 use Rattle.rules.specs.Kinds as Kinds
 use Rattle.token.specs.declared.StringPrefix.{StringPrefix}
 use Rattle.token.specs.declared.StringPrefix.the-variants.{None, Format as FormatPrefix}
@@ -12,8 +12,8 @@ use Rattle.token.specs.declared.Escape.{Escape as EscapeKind}
 use Rattle.token.specs.declared.Escape.the-variants.{Single, Unicode4, UnicodeDelim}
 use Rattle.token.specs.declared.State.{State}
 use Rattle.token.specs.declared.State.the-variants.{Brace, Paren, Bracket, String, Format, Hole}
-use Rattle.token.specs.declared.Known.{Known}
-use Rattle.token.specs.declared.Known.the-variants.{Token as KnownToken, Unknown}
+use Rattle.token.specs.declared.AsToken.{AsToken}
+use Rattle.token.specs.declared.AsToken.the-variants.{Token as KnownToken, Unknown}
 use Rattle.token.specs.declared.Opened.{Opened}
 use Rattle.token.specs.declared.Opened.the-variants.{State as OpenedState, NoOpener}
 use Rattle.token.specs.declared.Token.{Token}
@@ -97,7 +97,7 @@ stateCode (Format style) = quoteCode FormatPrefix style
 stateCode Hole = Kinds.HoleOpen
 
 -- of the answers to a code: the code of the token, or of the state's opener
-unfoldable pub tokenMeant : Known → Option ℕ
+unfoldable pub tokenMeant : AsToken → Option ℕ
 tokenMeant (KnownToken t) = some (codeOf t)
 tokenMeant Unknown = none
 
@@ -111,3 +111,7 @@ ifKind k = cond (leb k Kinds.Pipe) (some k) none
 
 unfoldable pub ifOpener : ℕ → Option ℕ
 ifOpener k = cond (Kinds.isOpener k) (some k) none
+
+-- "the first is QuoteOpen, StringInner, Escape or HoleClose"
+unfoldable pub joinsNext : ℕ → Bool
+joinsNext k = Kinds.isQuoteOpen k || eqb k Kinds.StringInner || Kinds.isEscape k || eqb k Kinds.HoleClose

@@ -4,14 +4,25 @@
 // From src/lexer.rs of RCL, changed: kinds have codes, both ways; `Eof`, which no lexer gives, is left out.
 
 // The kinds of lexemes, what can be open, and their codes; the class of each byte value.
-ghost use Prim.Native.Nat.{_<_};
+ghost use Prim.Native.Nat.{_≤_};
 ghost use mathlib.Core.Path.{_≡_};
+ghost use mathlib.Core.Bool.{_||_};
+ghost use lib.Dec.{eqb};
 ghost use lib.ListN.{getD};
 ghost use Rattle.rules.specs.Bytes.{classOf};
-ghost use Rattle.rules.specs.Kinds.{isOpener, isCloser};
+ghost use Rattle.rules.specs.Kinds.{Pipe, HoleOpen, isQuoteOpen, isTriple, isEscape, isOpener, isCloser};
 ghost use Rattle.rules.specs.Lexing.{unclosed};
-ghost use Rattle.token.specs.Codes.{quoteCode, escapeCode, codeOf, stateCode, tokenMeant, stateMeant, ifKind, ifOpener};
+ghost use Rattle.token.specs.Codes.{quoteCode, escapeCode, codeOf, stateCode, tokenMeant, stateMeant, ifKind, ifOpener, joinsNext};
+ghost use Rattle.token.specs.declared.StringPrefix.the-variants.{None, Format};
 ghost use Rattle.token.specs.Table.{IsTable};
+use rules::class::CONTROL;
+use rules::class::DIGIT;
+use rules::class::LETTER;
+use rules::class::OVER127;
+use rules::class::PUNCTUATION;
+use rules::class::WHITESPACE;
+use rules::kind;
+use rules::refusal;
 
 // What quote style a string literal is quoted in (`"` or `"""`).
 pub enum QuoteStyle {
@@ -169,7 +180,7 @@ pub enum State {
 }
 
 // The token of a kind code, or none.
-pub enum Known {
+pub enum AsToken {
     Token(Token),
     Unknown,
 }
@@ -185,12 +196,12 @@ pub fn quote_code(prefix: StringPrefix, style: QuoteStyle) -> u8
 {
     match prefix {
         StringPrefix::None => match style {
-            QuoteStyle::Double => 5,
-            QuoteStyle::Triple => 6,
+            QuoteStyle::Double => kind::PLAIN_DOUBLE,
+            QuoteStyle::Triple => kind::PLAIN_TRIPLE,
         },
         StringPrefix::Format => match style {
-            QuoteStyle::Double => 7,
-            QuoteStyle::Triple => 8,
+            QuoteStyle::Double => kind::FORMAT_DOUBLE,
+            QuoteStyle::Triple => kind::FORMAT_TRIPLE,
         },
     }
 }
@@ -199,9 +210,9 @@ pub fn escape_code(escape: Escape) -> u8
     ensures { λ r. ⌜ r ≡ escapeCode escape ⌝ }
 {
     match escape {
-        Escape::Single => 11,
-        Escape::Unicode4 => 12,
-        Escape::UnicodeDelim => 13,
+        Escape::Single => kind::SINGLE,
+        Escape::Unicode4 => kind::UNICODE4,
+        Escape::UnicodeDelim => kind::UNICODE_DELIM,
     }
 }
 
@@ -210,141 +221,141 @@ pub fn code(token: Token) -> u8
     ensures { λ r. ⌜ r ≡ codeOf token ⌝ }
 {
     match token {
-        Token::Space => 0,
-        Token::Blank => 1,
-        Token::Shebang => 2,
-        Token::LineComment => 3,
-        Token::Ident => 4,
+        Token::Space => kind::SPACE,
+        Token::Blank => kind::BLANK,
+        Token::Shebang => kind::SHEBANG,
+        Token::LineComment => kind::LINE_COMMENT,
+        Token::Ident => kind::IDENT,
         Token::QuoteOpen(prefix, style) => quote_code(prefix, style),
-        Token::QuoteClose => 9,
-        Token::StringInner => 10,
+        Token::QuoteClose => kind::QUOTE_CLOSE,
+        Token::StringInner => kind::STRING_INNER,
         Token::Escape(escape) => escape_code(escape),
-        Token::HoleOpen => 14,
-        Token::HoleClose => 15,
-        Token::NumHexadecimal => 16,
-        Token::NumBinary => 17,
-        Token::NumDecimal => 18,
-        Token::KwAnd => 19,
-        Token::KwAssert => 20,
-        Token::KwFalse => 21,
-        Token::KwFor => 22,
-        Token::KwElse => 23,
-        Token::KwIf => 24,
-        Token::KwImport => 25,
-        Token::KwIn => 26,
-        Token::KwLet => 27,
-        Token::KwNot => 28,
-        Token::KwNull => 29,
-        Token::KwOr => 30,
-        Token::KwTrace => 31,
-        Token::KwTrue => 32,
-        Token::LParen => 33,
-        Token::RParen => 34,
-        Token::LBracket => 35,
-        Token::RBracket => 36,
-        Token::LBrace => 37,
-        Token::RBrace => 38,
-        Token::Lt => 39,
-        Token::Gt => 40,
-        Token::LtEq => 41,
-        Token::GtEq => 42,
-        Token::Eq2 => 43,
-        Token::Neq => 44,
-        Token::ThinArrow => 45,
-        Token::FatArrow => 46,
-        Token::Eq1 => 47,
-        Token::Bang => 48,
-        Token::Star => 49,
-        Token::Plus => 50,
-        Token::Comma => 51,
-        Token::Minus => 52,
-        Token::Dot => 53,
-        Token::DotDot => 54,
-        Token::DotDotDot => 55,
-        Token::Slash => 56,
-        Token::Colon => 57,
-        Token::Semicolon => 58,
-        Token::Pipe => 59,
+        Token::HoleOpen => kind::HOLE_OPEN,
+        Token::HoleClose => kind::HOLE_CLOSE,
+        Token::NumHexadecimal => kind::NUM_HEXADECIMAL,
+        Token::NumBinary => kind::NUM_BINARY,
+        Token::NumDecimal => kind::NUM_DECIMAL,
+        Token::KwAnd => kind::KW_AND,
+        Token::KwAssert => kind::KW_ASSERT,
+        Token::KwFalse => kind::KW_FALSE,
+        Token::KwFor => kind::KW_FOR,
+        Token::KwElse => kind::KW_ELSE,
+        Token::KwIf => kind::KW_IF,
+        Token::KwImport => kind::KW_IMPORT,
+        Token::KwIn => kind::KW_IN,
+        Token::KwLet => kind::KW_LET,
+        Token::KwNot => kind::KW_NOT,
+        Token::KwNull => kind::KW_NULL,
+        Token::KwOr => kind::KW_OR,
+        Token::KwTrace => kind::KW_TRACE,
+        Token::KwTrue => kind::KW_TRUE,
+        Token::LParen => kind::L_PAREN,
+        Token::RParen => kind::R_PAREN,
+        Token::LBracket => kind::L_BRACKET,
+        Token::RBracket => kind::R_BRACKET,
+        Token::LBrace => kind::L_BRACE,
+        Token::RBrace => kind::R_BRACE,
+        Token::Lt => kind::LT,
+        Token::Gt => kind::GT,
+        Token::LtEq => kind::LT_EQ,
+        Token::GtEq => kind::GT_EQ,
+        Token::Eq2 => kind::EQ2,
+        Token::Neq => kind::NEQ,
+        Token::ThinArrow => kind::THIN_ARROW,
+        Token::FatArrow => kind::FAT_ARROW,
+        Token::Eq1 => kind::EQ1,
+        Token::Bang => kind::BANG,
+        Token::Star => kind::STAR,
+        Token::Plus => kind::PLUS,
+        Token::Comma => kind::COMMA,
+        Token::Minus => kind::MINUS,
+        Token::Dot => kind::DOT,
+        Token::DotDot => kind::DOT_DOT,
+        Token::DotDotDot => kind::DOT_DOT_DOT,
+        Token::Slash => kind::SLASH,
+        Token::Colon => kind::COLON,
+        Token::Semicolon => kind::SEMICOLON,
+        Token::Pipe => kind::PIPE,
     }
 }
 
-// The token of one of the codes 0 to 59. A function of its own, since with its arms in `token_of` the check takes twice as long.
+// The token of a code that is a kind's. A function of its own, since with its arms in `token_of` the check takes twice as long.
 fn token_by(kind: u8) -> Token
-    requires { ⌜ kind < 60 ⌝ }
+    requires { ⌜ kind ≤ Pipe ⌝ }
     ensures { λ r. ⌜ codeOf r ≡ kind ⌝ }
 {
     match kind {
-        0 => Token::Space,
-        1 => Token::Blank,
-        2 => Token::Shebang,
-        3 => Token::LineComment,
-        4 => Token::Ident,
-        5 => Token::QuoteOpen(StringPrefix::None, QuoteStyle::Double),
-        6 => Token::QuoteOpen(StringPrefix::None, QuoteStyle::Triple),
-        7 => Token::QuoteOpen(StringPrefix::Format, QuoteStyle::Double),
-        8 => Token::QuoteOpen(StringPrefix::Format, QuoteStyle::Triple),
-        9 => Token::QuoteClose,
-        10 => Token::StringInner,
-        11 => Token::Escape(Escape::Single),
-        12 => Token::Escape(Escape::Unicode4),
-        13 => Token::Escape(Escape::UnicodeDelim),
-        14 => Token::HoleOpen,
-        15 => Token::HoleClose,
-        16 => Token::NumHexadecimal,
-        17 => Token::NumBinary,
-        18 => Token::NumDecimal,
-        19 => Token::KwAnd,
-        20 => Token::KwAssert,
-        21 => Token::KwFalse,
-        22 => Token::KwFor,
-        23 => Token::KwElse,
-        24 => Token::KwIf,
-        25 => Token::KwImport,
-        26 => Token::KwIn,
-        27 => Token::KwLet,
-        28 => Token::KwNot,
-        29 => Token::KwNull,
-        30 => Token::KwOr,
-        31 => Token::KwTrace,
-        32 => Token::KwTrue,
-        33 => Token::LParen,
-        34 => Token::RParen,
-        35 => Token::LBracket,
-        36 => Token::RBracket,
-        37 => Token::LBrace,
-        38 => Token::RBrace,
-        39 => Token::Lt,
-        40 => Token::Gt,
-        41 => Token::LtEq,
-        42 => Token::GtEq,
-        43 => Token::Eq2,
-        44 => Token::Neq,
-        45 => Token::ThinArrow,
-        46 => Token::FatArrow,
-        47 => Token::Eq1,
-        48 => Token::Bang,
-        49 => Token::Star,
-        50 => Token::Plus,
-        51 => Token::Comma,
-        52 => Token::Minus,
-        53 => Token::Dot,
-        54 => Token::DotDot,
-        55 => Token::DotDotDot,
-        56 => Token::Slash,
-        57 => Token::Colon,
-        58 => Token::Semicolon,
-        _ => Token::Pipe, // 59
+        kind::SPACE => Token::Space,
+        kind::BLANK => Token::Blank,
+        kind::SHEBANG => Token::Shebang,
+        kind::LINE_COMMENT => Token::LineComment,
+        kind::IDENT => Token::Ident,
+        kind::PLAIN_DOUBLE => Token::QuoteOpen(StringPrefix::None, QuoteStyle::Double),
+        kind::PLAIN_TRIPLE => Token::QuoteOpen(StringPrefix::None, QuoteStyle::Triple),
+        kind::FORMAT_DOUBLE => Token::QuoteOpen(StringPrefix::Format, QuoteStyle::Double),
+        kind::FORMAT_TRIPLE => Token::QuoteOpen(StringPrefix::Format, QuoteStyle::Triple),
+        kind::QUOTE_CLOSE => Token::QuoteClose,
+        kind::STRING_INNER => Token::StringInner,
+        kind::SINGLE => Token::Escape(Escape::Single),
+        kind::UNICODE4 => Token::Escape(Escape::Unicode4),
+        kind::UNICODE_DELIM => Token::Escape(Escape::UnicodeDelim),
+        kind::HOLE_OPEN => Token::HoleOpen,
+        kind::HOLE_CLOSE => Token::HoleClose,
+        kind::NUM_HEXADECIMAL => Token::NumHexadecimal,
+        kind::NUM_BINARY => Token::NumBinary,
+        kind::NUM_DECIMAL => Token::NumDecimal,
+        kind::KW_AND => Token::KwAnd,
+        kind::KW_ASSERT => Token::KwAssert,
+        kind::KW_FALSE => Token::KwFalse,
+        kind::KW_FOR => Token::KwFor,
+        kind::KW_ELSE => Token::KwElse,
+        kind::KW_IF => Token::KwIf,
+        kind::KW_IMPORT => Token::KwImport,
+        kind::KW_IN => Token::KwIn,
+        kind::KW_LET => Token::KwLet,
+        kind::KW_NOT => Token::KwNot,
+        kind::KW_NULL => Token::KwNull,
+        kind::KW_OR => Token::KwOr,
+        kind::KW_TRACE => Token::KwTrace,
+        kind::KW_TRUE => Token::KwTrue,
+        kind::L_PAREN => Token::LParen,
+        kind::R_PAREN => Token::RParen,
+        kind::L_BRACKET => Token::LBracket,
+        kind::R_BRACKET => Token::RBracket,
+        kind::L_BRACE => Token::LBrace,
+        kind::R_BRACE => Token::RBrace,
+        kind::LT => Token::Lt,
+        kind::GT => Token::Gt,
+        kind::LT_EQ => Token::LtEq,
+        kind::GT_EQ => Token::GtEq,
+        kind::EQ2 => Token::Eq2,
+        kind::NEQ => Token::Neq,
+        kind::THIN_ARROW => Token::ThinArrow,
+        kind::FAT_ARROW => Token::FatArrow,
+        kind::EQ1 => Token::Eq1,
+        kind::BANG => Token::Bang,
+        kind::STAR => Token::Star,
+        kind::PLUS => Token::Plus,
+        kind::COMMA => Token::Comma,
+        kind::MINUS => Token::Minus,
+        kind::DOT => Token::Dot,
+        kind::DOT_DOT => Token::DotDot,
+        kind::DOT_DOT_DOT => Token::DotDotDot,
+        kind::SLASH => Token::Slash,
+        kind::COLON => Token::Colon,
+        kind::SEMICOLON => Token::Semicolon,
+        _ => Token::Pipe, // kind::PIPE
     }
 }
 
 // The token of a kind code.
-pub fn token_of(kind: u8) -> Known
+pub fn token_of(kind: u8) -> AsToken
     ensures { λ r. ⌜ tokenMeant r ≡ ifKind kind ⌝ }
 {
-    if kind < 60 {
-        return Known::Token(token_by(kind));
+    if kind <= kind::PIPE {
+        return AsToken::Token(token_by(kind));
     }
-    Known::Unknown
+    AsToken::Unknown
 }
 
 // The code of the opener that opens a state.
@@ -352,12 +363,12 @@ pub fn state_code(state: State) -> u8
     ensures { λ r. ⌜ r ≡ stateCode state ⌝ }
 {
     match state {
-        State::Brace => 37,
-        State::Paren => 33,
-        State::Bracket => 35,
+        State::Brace => kind::L_BRACE,
+        State::Paren => kind::L_PAREN,
+        State::Bracket => kind::L_BRACKET,
         State::String(style) => quote_code(StringPrefix::None, style),
         State::Format(style) => quote_code(StringPrefix::Format, style),
-        State::Hole => 14,
+        State::Hole => kind::HOLE_OPEN,
     }
 }
 
@@ -366,14 +377,14 @@ pub fn state_of(kind: u8) -> Opened
     ensures { λ r. ⌜ stateMeant r ≡ ifOpener kind ⌝ }
 {
     match kind {
-        5 => Opened::State(State::String(QuoteStyle::Double)),
-        6 => Opened::State(State::String(QuoteStyle::Triple)),
-        7 => Opened::State(State::Format(QuoteStyle::Double)),
-        8 => Opened::State(State::Format(QuoteStyle::Triple)),
-        14 => Opened::State(State::Hole),
-        33 => Opened::State(State::Paren),
-        35 => Opened::State(State::Bracket),
-        37 => Opened::State(State::Brace),
+        kind::PLAIN_DOUBLE => Opened::State(State::String(QuoteStyle::Double)),
+        kind::PLAIN_TRIPLE => Opened::State(State::String(QuoteStyle::Triple)),
+        kind::FORMAT_DOUBLE => Opened::State(State::Format(QuoteStyle::Double)),
+        kind::FORMAT_TRIPLE => Opened::State(State::Format(QuoteStyle::Triple)),
+        kind::HOLE_OPEN => Opened::State(State::Hole),
+        kind::L_PAREN => Opened::State(State::Paren),
+        kind::L_BRACKET => Opened::State(State::Bracket),
+        kind::L_BRACE => Opened::State(State::Brace),
         _ => Opened::NoOpener,
     }
 }
@@ -395,18 +406,128 @@ pub fn opened_by(token: Token) -> Opened
     }
 }
 
+// Whether what was opened is a string.
+pub fn is_string(state: State) -> bool
+    ensures { λ r. ⌜ r ≡ isQuoteOpen (stateCode state) ⌝ }
+{
+    match state {
+        State::String(_) => true,
+        State::Format(_) => true,
+        State::Hole => false,
+        State::Brace => false,
+        State::Paren => false,
+        State::Bracket => false,
+    }
+}
+
+// Whether a kind is QuoteOpen: what it opens is a string.
+pub fn is_quote_open(kind: u8) -> bool
+    ensures { λ r. ⌜ r ≡ isQuoteOpen kind ⌝ }
+{
+    let opened = state_of(kind);
+    let Opened::State(state) = opened else {
+        return false;
+    };
+    is_string(state)
+}
+
+// Whether what was opened is a string in triple quotes.
+pub fn is_triple_string(state: State) -> bool
+    ensures { λ r. ⌜ r ≡ isTriple (stateCode state) ⌝ }
+{
+    match state {
+        State::String(style) => is_triple_style(style),
+        State::Format(style) => is_triple_style(style),
+        State::Brace => false,
+        State::Paren => false,
+        State::Bracket => false,
+        State::Hole => false,
+    }
+}
+
+// Whether a kind opens a string in triple quotes.
+pub fn is_triple(kind: u8) -> bool
+    ensures { λ r. ⌜ r ≡ isTriple kind ⌝ }
+{
+    let opened = state_of(kind);
+    let Opened::State(state) = opened else {
+        return false;
+    };
+    is_triple_string(state)
+}
+
+// Whether quotes of a style are triple.
+pub fn is_triple_style(style: QuoteStyle) -> bool
+    ensures { λ r. ⌜ (r ≡ isTriple (quoteCode None style)) × (r ≡ isTriple (quoteCode Format style)) ⌝ }
+{
+    match style {
+        QuoteStyle::Double => false,
+        QuoteStyle::Triple => true,
+    }
+}
+
+// Whether it is an escape sequence.
+pub fn is_escape(kind: u8) -> bool
+    ensures { λ r. ⌜ r ≡ isEscape kind ⌝ }
+{
+    (kind::SINGLE <= kind) & (kind <= kind::UNICODE_DELIM)
+}
+
+// Whether what was opened is a string or a hole.
+pub fn is_string_or_hole(state: State) -> bool
+    ensures { λ r. ⌜ r ≡ (isQuoteOpen (stateCode state) || eqb (stateCode state) HoleOpen) ⌝ }
+{
+    match state {
+        State::String(_) => true,
+        State::Format(_) => true,
+        State::Hole => true,
+        State::Brace => false,
+        State::Paren => false,
+        State::Bracket => false,
+    }
+}
+
+// "Openers (QuoteOpen, HoleOpen)" of a string's parts: the brackets of an expression are none.
+pub fn opens_string_or_hole(kind: u8) -> bool
+    ensures { λ r. ⌜ r ≡ (isQuoteOpen kind || eqb kind HoleOpen) ⌝ }
+{
+    let opened = state_of(kind);
+    let Opened::State(state) = opened else {
+        return false;
+    };
+    is_string_or_hole(state)
+}
+
+// "QuoteOpen, StringInner, Escape or HoleClose": what follows is the string's. By codes, since the tidy writer asks it of every lexeme.
+pub fn joins_next(kind: u8) -> bool
+    ensures { λ r. ⌜ r ≡ joinsNext kind ⌝ }
+{
+    (kind::PLAIN_DOUBLE <= kind) & (kind <= kind::FORMAT_TRIPLE)
+        | (kind == kind::STRING_INNER)
+        | is_escape(kind)
+        | (kind == kind::HOLE_CLOSE)
+}
+
 // Whether a lexeme opens: codes 5 to 8, 14, 33, 35, 37.
 pub fn opens(kind: u8) -> bool
     ensures { λ r. ⌜ r ≡ isOpener kind ⌝ }
 {
-    (5 <= kind) & (kind <= 8) | (kind == 14) | (kind == 33) | (kind == 35) | (kind == 37)
+    (kind::PLAIN_DOUBLE <= kind) & (kind <= kind::FORMAT_TRIPLE)
+        | (kind == kind::HOLE_OPEN)
+        | (kind == kind::L_PAREN)
+        | (kind == kind::L_BRACKET)
+        | (kind == kind::L_BRACE)
 }
 
 // Whether it closes: codes 9, 15, 34, 36, 38.
 pub fn closes(kind: u8) -> bool
     ensures { λ r. ⌜ r ≡ isCloser kind ⌝ }
 {
-    (kind == 9) | (kind == 15) | (kind == 34) | (kind == 36) | (kind == 38)
+    (kind == kind::QUOTE_CLOSE)
+        | (kind == kind::HOLE_CLOSE)
+        | (kind == kind::R_PAREN)
+        | (kind == kind::R_BRACKET)
+        | (kind == kind::R_BRACE)
 }
 
 // The refusal of an opener that is never closed.
@@ -414,273 +535,273 @@ pub fn unclosed_number(kind: u8) -> u8
     ensures { λ r. ⌜ r ≡ unclosed kind ⌝ }
 {
     match kind {
-        14 => 26,
-        7 => 28,
-        8 => 28,
-        5 => 27,
-        6 => 27,
-        _ => 25,
+        kind::HOLE_OPEN => refusal::UNCLOSED_HOLE,
+        kind::FORMAT_DOUBLE => refusal::UNCLOSED_FORMAT,
+        kind::FORMAT_TRIPLE => refusal::UNCLOSED_FORMAT,
+        kind::PLAIN_DOUBLE => refusal::UNCLOSED_STRING,
+        kind::PLAIN_TRIPLE => refusal::UNCLOSED_STRING,
+        _ => refusal::UNCLOSED_BRACKET,
     }
 }
 
-// The class of each byte value: 0 whitespace, 1 other control, 2 digit, 3 letter or underscore, 4 other punctuation, 5 over 127.
+// The class of each byte value.
 const CLASS: [u8; 256] = [
-    1,
-    1,
-    1,
-    1,
-    1,
-    1,
-    1,
-    1,
-    1,
-    0, // TAB
-    0, // LF
-    1,
-    0, // form feed
-    0, // CR
-    1,
-    1,
-    1,
-    1,
-    1,
-    1,
-    1,
-    1,
-    1,
-    1,
-    1,
-    1,
-    1,
-    1,
-    1,
-    1,
-    1,
-    1,
-    0, // space
-    4,
-    4,
-    4,
-    4,
-    4,
-    4,
-    4,
-    4,
-    4,
-    4,
-    4,
-    4,
-    4,
-    4,
-    4,
-    2, // `0`
-    2,
-    2,
-    2,
-    2,
-    2,
-    2,
-    2,
-    2,
-    2,
-    4,
-    4,
-    4,
-    4,
-    4,
-    4,
-    4,
-    3, // `A`
-    3,
-    3,
-    3,
-    3,
-    3,
-    3,
-    3,
-    3,
-    3,
-    3,
-    3,
-    3,
-    3,
-    3,
-    3,
-    3,
-    3,
-    3,
-    3,
-    3,
-    3,
-    3,
-    3,
-    3,
-    3,
-    4,
-    4,
-    4,
-    4,
-    3, // `_`
-    4,
-    3, // `a`
-    3,
-    3,
-    3,
-    3,
-    3,
-    3,
-    3,
-    3,
-    3,
-    3,
-    3,
-    3,
-    3,
-    3,
-    3,
-    3,
-    3,
-    3,
-    3,
-    3,
-    3,
-    3,
-    3,
-    3,
-    3,
-    4,
-    4,
-    4,
-    4,
-    1, // DEL
-    5, // over 127
-    5,
-    5,
-    5,
-    5,
-    5,
-    5,
-    5,
-    5,
-    5,
-    5,
-    5,
-    5,
-    5,
-    5,
-    5,
-    5,
-    5,
-    5,
-    5,
-    5,
-    5,
-    5,
-    5,
-    5,
-    5,
-    5,
-    5,
-    5,
-    5,
-    5,
-    5,
-    5,
-    5,
-    5,
-    5,
-    5,
-    5,
-    5,
-    5,
-    5,
-    5,
-    5,
-    5,
-    5,
-    5,
-    5,
-    5,
-    5,
-    5,
-    5,
-    5,
-    5,
-    5,
-    5,
-    5,
-    5,
-    5,
-    5,
-    5,
-    5,
-    5,
-    5,
-    5,
-    5,
-    5,
-    5,
-    5,
-    5,
-    5,
-    5,
-    5,
-    5,
-    5,
-    5,
-    5,
-    5,
-    5,
-    5,
-    5,
-    5,
-    5,
-    5,
-    5,
-    5,
-    5,
-    5,
-    5,
-    5,
-    5,
-    5,
-    5,
-    5,
-    5,
-    5,
-    5,
-    5,
-    5,
-    5,
-    5,
-    5,
-    5,
-    5,
-    5,
-    5,
-    5,
-    5,
-    5,
-    5,
-    5,
-    5,
-    5,
-    5,
-    5,
-    5,
-    5,
-    5,
-    5,
-    5,
-    5,
-    5,
-    5,
-    5,
-    5,
-    5,
-    5,
-    5,
-    5,
+    CONTROL,
+    CONTROL,
+    CONTROL,
+    CONTROL,
+    CONTROL,
+    CONTROL,
+    CONTROL,
+    CONTROL,
+    CONTROL,
+    WHITESPACE, // TAB
+    WHITESPACE, // LF
+    CONTROL,
+    WHITESPACE, // form feed
+    WHITESPACE, // CR
+    CONTROL,
+    CONTROL,
+    CONTROL,
+    CONTROL,
+    CONTROL,
+    CONTROL,
+    CONTROL,
+    CONTROL,
+    CONTROL,
+    CONTROL,
+    CONTROL,
+    CONTROL,
+    CONTROL,
+    CONTROL,
+    CONTROL,
+    CONTROL,
+    CONTROL,
+    CONTROL,
+    WHITESPACE, // space
+    PUNCTUATION,
+    PUNCTUATION,
+    PUNCTUATION,
+    PUNCTUATION,
+    PUNCTUATION,
+    PUNCTUATION,
+    PUNCTUATION,
+    PUNCTUATION,
+    PUNCTUATION,
+    PUNCTUATION,
+    PUNCTUATION,
+    PUNCTUATION,
+    PUNCTUATION,
+    PUNCTUATION,
+    PUNCTUATION,
+    DIGIT, // `0`
+    DIGIT,
+    DIGIT,
+    DIGIT,
+    DIGIT,
+    DIGIT,
+    DIGIT,
+    DIGIT,
+    DIGIT,
+    DIGIT,
+    PUNCTUATION,
+    PUNCTUATION,
+    PUNCTUATION,
+    PUNCTUATION,
+    PUNCTUATION,
+    PUNCTUATION,
+    PUNCTUATION,
+    LETTER, // `A`
+    LETTER,
+    LETTER,
+    LETTER,
+    LETTER,
+    LETTER,
+    LETTER,
+    LETTER,
+    LETTER,
+    LETTER,
+    LETTER,
+    LETTER,
+    LETTER,
+    LETTER,
+    LETTER,
+    LETTER,
+    LETTER,
+    LETTER,
+    LETTER,
+    LETTER,
+    LETTER,
+    LETTER,
+    LETTER,
+    LETTER,
+    LETTER,
+    LETTER,
+    PUNCTUATION,
+    PUNCTUATION,
+    PUNCTUATION,
+    PUNCTUATION,
+    LETTER, // `_`
+    PUNCTUATION,
+    LETTER, // `a`
+    LETTER,
+    LETTER,
+    LETTER,
+    LETTER,
+    LETTER,
+    LETTER,
+    LETTER,
+    LETTER,
+    LETTER,
+    LETTER,
+    LETTER,
+    LETTER,
+    LETTER,
+    LETTER,
+    LETTER,
+    LETTER,
+    LETTER,
+    LETTER,
+    LETTER,
+    LETTER,
+    LETTER,
+    LETTER,
+    LETTER,
+    LETTER,
+    LETTER,
+    PUNCTUATION,
+    PUNCTUATION,
+    PUNCTUATION,
+    PUNCTUATION,
+    CONTROL, // DEL
+    OVER127, // over 127
+    OVER127,
+    OVER127,
+    OVER127,
+    OVER127,
+    OVER127,
+    OVER127,
+    OVER127,
+    OVER127,
+    OVER127,
+    OVER127,
+    OVER127,
+    OVER127,
+    OVER127,
+    OVER127,
+    OVER127,
+    OVER127,
+    OVER127,
+    OVER127,
+    OVER127,
+    OVER127,
+    OVER127,
+    OVER127,
+    OVER127,
+    OVER127,
+    OVER127,
+    OVER127,
+    OVER127,
+    OVER127,
+    OVER127,
+    OVER127,
+    OVER127,
+    OVER127,
+    OVER127,
+    OVER127,
+    OVER127,
+    OVER127,
+    OVER127,
+    OVER127,
+    OVER127,
+    OVER127,
+    OVER127,
+    OVER127,
+    OVER127,
+    OVER127,
+    OVER127,
+    OVER127,
+    OVER127,
+    OVER127,
+    OVER127,
+    OVER127,
+    OVER127,
+    OVER127,
+    OVER127,
+    OVER127,
+    OVER127,
+    OVER127,
+    OVER127,
+    OVER127,
+    OVER127,
+    OVER127,
+    OVER127,
+    OVER127,
+    OVER127,
+    OVER127,
+    OVER127,
+    OVER127,
+    OVER127,
+    OVER127,
+    OVER127,
+    OVER127,
+    OVER127,
+    OVER127,
+    OVER127,
+    OVER127,
+    OVER127,
+    OVER127,
+    OVER127,
+    OVER127,
+    OVER127,
+    OVER127,
+    OVER127,
+    OVER127,
+    OVER127,
+    OVER127,
+    OVER127,
+    OVER127,
+    OVER127,
+    OVER127,
+    OVER127,
+    OVER127,
+    OVER127,
+    OVER127,
+    OVER127,
+    OVER127,
+    OVER127,
+    OVER127,
+    OVER127,
+    OVER127,
+    OVER127,
+    OVER127,
+    OVER127,
+    OVER127,
+    OVER127,
+    OVER127,
+    OVER127,
+    OVER127,
+    OVER127,
+    OVER127,
+    OVER127,
+    OVER127,
+    OVER127,
+    OVER127,
+    OVER127,
+    OVER127,
+    OVER127,
+    OVER127,
+    OVER127,
+    OVER127,
+    OVER127,
+    OVER127,
+    OVER127,
+    OVER127,
+    OVER127,
+    OVER127,
+    OVER127,
+    OVER127,
+    OVER127,
 ];
 
 // The whole table. A constant array is built anew at each use, so whoever reads many bytes takes it once and lends it to `class`.

@@ -4,3 +4,5 @@ pub mod Ahead
 pub mod Reading
 -- what the tests of the code tell: laws of the records of specs/Blocks.antt
 pub mod Blocks
+-- the bytes of a scalar value
+pub mod Scalars

@@ -1,10 +1,13 @@
-// UTF-8 by RFC 3629: whether a text is UTF-8, and where its first bad sequence begins.
+// UTF-8 by RFC 3629: whether a text is UTF-8, and where its first bad sequence begins; the bytes of a scalar value.
+mod encoding;
+
+pub use encoding::encode;
+pub use encoding::is_scalar;
 ghost use mathlib.Core.Path.{_≡_};
-ghost use mathlib.Core.Bool.{cond};
 ghost use Prim.Native.Nat.{ℕ, _+_, _≤_, _<_};
-ghost use lib.ListN.{length, drop, getD};
+ghost use lib.ListN.{length, drop};
 ghost use Rattle.rules.specs.Utf8.{isOctet, isTwo, isThree, isFour, charLength, firstBad};
-ghost use Rattle.rules.specs.Spans.{utf8Verdict};
+ghost use Rattle.rules.specs.Source.{utf8Verdict};
 ghost use Rattle.utf8.specs.Meaning.{checkedMeant, verdictMeant};
 ghost use Rattle.utf8.specs.Ahead.{Ahead, IfSo, Next};
 ghost use Rattle.utf8.specs.Blocks.{IfFollows, AllFollow, Largest, IfGood, StartsAt, IfStarts, lastBoundary};
@@ -13,6 +16,12 @@ ghost use Rattle.utf8.specs.Blocks.{IfFollows, AllFollow, Largest, IfGoo
 pub enum Checked {
     Valid,
     BadAt(usize),
+}
+
+// The bytes of a character: so many of four.
+pub struct Encoded {
+    pub bytes: [u8; 4],
+    pub length: usize,
 }
 
 // From `lo` to `hi`, both included.
@@ -53,16 +62,6 @@ fn four(a: u8, b: u8, c: u8, d: u8) -> bool
         | octet(0xF4, 0xF4, a) & octet(0x80, 0x8F, b) & tc & td
 }
 
-// The byte at `i`, and 0 past the end.
-fn byte_at(text: &[u8], i: usize) -> u8
-    ensures { λ r. ⌜ r ≡ getD (now (text .entry)) i 0 ⌝ }
-{
-    if i < text.len() {
-        return text[i];
-    }
-    0
-}
-
 // How many bytes the character at a position has, 0 where none begins there.
 fn char_length(text: &[u8], at: usize) -> usize
     requires { ⌜ at < length (now text) ⌝ }
@@ -72,15 +71,15 @@ fn char_length(text: &[u8], at: usize) -> usize
     if a < 0x80 {
         return 1;
     }
-    let b = byte_at(text, at + 1);
+    let b = basics::byte_at(text, at + 1);
     if two(a, b) {
         return 2;
     }
-    let c = byte_at(text, at + 2);
+    let c = basics::byte_at(text, at + 2);
     if three(a, b, c) {
         return 3;
     }
-    let d = byte_at(text, at + 3);
+    let d = basics::byte_at(text, at + 3);
     if four(a, b, c, d) {
         return 4;
     }
@@ -141,16 +140,6 @@ fn skip(text: &[u8], at: usize) -> usize
     skip_blocks(text, b, 1)
 }
 
-// `x` where a test holds, `y` elsewhere.
-fn pick(test: bool, x: u8, y: u8) -> u8
-    ensures { λ r. ⌜ r ≡ cond test x y ⌝ }
-{
-    if test {
-        return x;
-    }
-    y
-}
-
 // Whether `d`, which is F4 at most, can stand behind `a`, `b` and `c`: a tail where a character goes on, ASCII or a first
 // byte elsewhere. Tails under A0 do not follow E0, the others do not follow ED; those under 90 do not follow F0, the others
 // do not follow F4: by `^` one comparison with `c` serves both. With `d < 0x80` each test is one signed comparison.
@@ -160,8 +149,8 @@ fn follows(a: u8, b: u8, c: u8, d: u8) -> bool
     let due = (0xF0 <= a) | (0xE0 <= b) | (0xC0 <= c);
     let tail = octet(0x80, 0xBF, d);
     let first = (d < 0x80) | (0xC2 <= d);
-    let three = pick((d < 0x80) | (0xA0 <= d), 0xE0 ^ 0xED, 0);
-    let four = pick((d < 0x80) | (0x90 <= d), 0xF0 ^ 0xF4, 0);
+    let three = basics::pick((d < 0x80) | (0xA0 <= d), 0xE0 ^ 0xED, 0);
+    let four = basics::pick((d < 0x80) | (0x90 <= d), 0xF0 ^ 0xF4, 0);
     (due & tail | !due & first) & (c ^ three != 0xE0) & (c ^ four != 0xF0)
 }
 

@@ -10,11 +10,12 @@ use lib.Dec.{leb, eqb}
 use lib.ListN.{length, drop, length-append, drop-of-length-le}
 use borrow.Author.Tests.{leb-true, leb-false}
 use Rattle.rules.specs.Refusals.{OutputFull}
-use Rattle.rules.specs.Spans.{nowhere, limit, given, refused, Refusal, refuse, accepted}
+use Rattle.rules.specs.Spans.{nowhere, limit}
+use Rattle.rules.specs.Answers.{given, refused, Refusal, refuse, accepted}
 use Rattle.rules.specs.Kinds.{HoleOpen}
-use Rattle.rules.specs.Lexing.{Lexeme}
-use Rattle.rules.specs.Output.{endOf, chunk, Written, overwritten, written}
-use Rattle.rules.specs.Value.{partBytes, valueChunks}
+use Rattle.rules.specs.Lent.{Lexeme}
+use Rattle.rules.specs.Output.{endOf, piece, Written, overwritten, written}
+use Rattle.rules.specs.Value.{partBytes, valuePieces}
 use Rattle.rules.proofs.Text.{decide}
 use Rattle.list.specs.Entries.{firstOf}
 use Rattle.list.proofs.Entries.{first-drop}
@@ -28,11 +29,11 @@ before past w = record { bytes = past ++ w .bytes; verdict = w .verdict }
 
 module _ (text : List ℕ) (indent : ℕ) (p : Lexeme) (ps : List Lexeme) where
   -- a hole gives no chunk
-  pub chunks-hole : eqb (p .kind) HoleOpen ≡ true → valueChunks text indent (p ∷ ps) ≡ valueChunks text indent ps
+  pub chunks-hole : eqb (p .kind) HoleOpen ≡ true → valuePieces text indent (p ∷ ps) ≡ valuePieces text indent ps
   chunks-hole e = rw e refl
 
   -- another part gives one
-  pub chunks-part : eqb (p .kind) HoleOpen ≡ false → valueChunks text indent (p ∷ ps) ≡ chunk (partBytes text indent p) (p .at) ∷ valueChunks text indent ps
+  pub chunks-part : eqb (p .kind) HoleOpen ≡ false → valuePieces text indent (p ∷ ps) ≡ piece (partBytes text indent p) (p .at) ∷ valuePieces text indent ps
   chunks-part e = rw e refl
 
 -- the parts before a place are written: their bytes, the position and the output after them, and what is still to write
@@ -41,7 +42,7 @@ pub record Writing (text : List ℕ) (indent : ℕ) (ps : List Lexeme) (start : 
   pub reached : at ≡ start + length past
   pub output : out ≡ overwritten first start past
   pub same : length out ≡ length first
-  pub rest : written (endOf first) start (valueChunks text indent ps) ≡ before past (written (endOf first) at (valueChunks text indent (drop i ps)))
+  pub rest : written (endOf first) start (valuePieces text indent ps) ≡ before past (written (endOf first) at (valuePieces text indent (drop i ps)))
 
 -- no part is written yet
 pub writing-start : (text : List ℕ) (indent : ℕ) (ps : List Lexeme) (at : ℕ) (out : List ℕ) → Writing text indent ps at out 0 at out
@@ -61,16 +62,16 @@ module _ {text : List ℕ} {indent : ℕ} {ps : List Lexeme} {start : ℕ} {firs
 
   -- what is still to write, where the part at the place is a hole
   on-hole : i < length ps → eqb (firstOf (drop i ps) .kind) HoleOpen ≡ true
-      → written (endOf first) start (valueChunks text indent ps) ≡ before (w .past) (written (endOf first) at (valueChunks text indent (drop (i + 1) ps)))
+      → written (endOf first) start (valuePieces text indent ps) ≡ before (w .past) (written (endOf first) at (valuePieces text indent (drop (i + 1) ps)))
   on-hole lt e = w .rest ∙ ap (λ cs. before (w .past) (written (endOf first) at cs))
-      (ap (valueChunks text indent) (first-drop ps i lt) ∙ rw (add-one i) (chunks-hole text indent (firstOf (drop i ps)) (drop (suc i) ps) e))
+      (ap (valuePieces text indent) (first-drop ps i lt) ∙ rw (add-one i) (chunks-hole text indent (firstOf (drop i ps)) (drop (suc i) ps) e))
 
   -- where it is another part
   on-part : i < length ps → eqb (firstOf (drop i ps) .kind) HoleOpen ≡ false
-      → written (endOf first) start (valueChunks text indent ps)
-      ≡ before (w .past) (written (endOf first) at (chunk (partBytes text indent (firstOf (drop i ps))) (firstOf (drop i ps) .at) ∷ valueChunks text indent (drop (i + 1) ps)))
+      → written (endOf first) start (valuePieces text indent ps)
+      ≡ before (w .past) (written (endOf first) at (piece (partBytes text indent (firstOf (drop i ps))) (firstOf (drop i ps) .at) ∷ valuePieces text indent (drop (i + 1) ps)))
   on-part lt e = w .rest ∙ ap (λ cs. before (w .past) (written (endOf first) at cs))
-      (ap (valueChunks text indent) (first-drop ps i lt) ∙ rw (add-one i) (chunks-part text indent (firstOf (drop i ps)) (drop (suc i) ps) e))
+      (ap (valuePieces text indent) (first-drop ps i lt) ∙ rw (add-one i) (chunks-part text indent (firstOf (drop i ps)) (drop (suc i) ps) e))
 
   -- one more part is written
   pub writing-on : {next : ℕ} {out′ : List ℕ} → i < length ps → PartWritten text indent (firstOf (drop i ps)) at out (given next) out′ → Writing text indent ps start first (i + 1) next out′
@@ -91,7 +92,7 @@ module _ {text : List ℕ} {indent : ℕ} {ps : List Lexeme} {start : ℕ} {firs
         reached = omega (arith, w .reached, length-append (w .past) b);
         output = rw (w .output, w .reached) (overwritten-two first start (w .past) b room);
         same = overwritten-length out at b inside ∙ w .same;
-        rest = on-part lt e ∙ ap (before (w .past)) (written-fits (endOf first) at (chunk b (p .at)) (valueChunks text indent (drop (i + 1) ps)) here) ∙ rw append-assoc refl;
+        rest = on-part lt e ∙ ap (before (w .past)) (written-fits (endOf first) at (piece b (p .at)) (valuePieces text indent (drop (i + 1) ps)) here) ∙ rw append-assoc refl;
       }))
       (λ f. let no-place : given next ≡ refuse OutputFull (p .at) = part .answered e ∙ rw f refl in accepted-refused no-place))
 
@@ -103,20 +104,20 @@ module _ {text : List ℕ} {indent : ℕ} {ps : List Lexeme} {start : ℕ} {firs
       (λ f. let no-refusal : refused r ≡ given (at + length b) = part .answered e ∙ rw f refl in accepted-refused (sym no-refusal))
       (λ f.
       let full : endOf first < at + length b = rw writing-end-of at (leb-false (at + length b) (endOf out) f) in
-      let ended : written (endOf first) start (valueChunks text indent ps) ≡ before (w .past) (record { bytes = []; verdict = refuse OutputFull (p .at) }) =
-      on-part lt e ∙ ap (before (w .past)) (written-stops (endOf first) at (chunk b (p .at)) (valueChunks text indent (drop (i + 1) ps)) full) in
+      let ended : written (endOf first) start (valuePieces text indent ps) ≡ before (w .past) (record { bytes = []; verdict = refuse OutputFull (p .at) }) =
+      on-part lt e ∙ ap (before (w .past)) (written-stops (endOf first) at (piece b (p .at)) (valuePieces text indent (drop (i + 1) ps)) full) in
       record { answered = part .answered e ∙ rw (f, ended) refl; output = part .output e ∙ rw (f, ended, append-nil) (w .output) }))
 
   -- all parts are written, within the output's end
   pub writing-end : length ps ≤ i → at ≤ endOf out → AllWritten text indent ps start first (given at) out
   writing-end le h =
-      let ended : written (endOf first) start (valueChunks text indent ps) ≡ before (w .past) (record { bytes = []; verdict = accepted }) =
+      let ended : written (endOf first) start (valuePieces text indent ps) ≡ before (w .past) (record { bytes = []; verdict = accepted }) =
       w .rest ∙ rw (drop-of-length-le ps {i = i} le, written-nothing (endOf first) at (rw writing-end-of at h)) refl in
       record { answered = rw (ended, append-nil, w .reached) refl; output = rw (ended, append-nil) (w .output) }
 
   -- all parts are written, and there is none, at a position past the output's end
   pub writing-past : length ps ≤ i → endOf out < at → AllWritten text indent ps start first (refuse OutputFull nowhere) out
   writing-past le h =
-      let ended : written (endOf first) start (valueChunks text indent ps) ≡ before (w .past) (record { bytes = []; verdict = refuse OutputFull nowhere }) =
+      let ended : written (endOf first) start (valuePieces text indent ps) ≡ before (w .past) (record { bytes = []; verdict = refuse OutputFull nowhere }) =
       w .rest ∙ rw (drop-of-length-le ps {i = i} le, written-past (endOf first) at (rw writing-end-of at h)) refl in
       record { answered = rw ended refl; output = rw (ended, append-nil) (w .output) }

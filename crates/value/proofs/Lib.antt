@@ -1,7 +1,5 @@
 -- the first refusal along a list
 pub mod Refusing
--- the indent taken off a line
-pub mod Dedenting
 -- one part that nothing is said against, and how it is written
 pub mod OnePart
 -- chunks one after another, as the parts give them

@@ -2,46 +2,43 @@
 use Prim.Native.Nat.{ℕ, _+_, _≤_, _<_}
 use native.Mathlib.Omega.{arith}
 use mathlib.Core.Path.{_≡_, refl, sym, ap, _∙_}
-use mathlib.Core.Bool.{Bool, true, false, _&&_, false≢true}
+use mathlib.Core.Bool.{true, false, false≢true}
 use mathlib.Core.List.{List}
 use mathlib.Core.Option.{none, some}
 use lib.Dec.{leb, eqb}
 use lib.ListN.{length, drop}
 use borrow.Author.Tests.{ne-eqb, le-leb, lt-leb, leb-true, leb-false}
-use Rattle.rules.specs.Refusals.{OutputFull}
-use Rattle.rules.specs.Spans.{Span, bytesAt, Answer, given, refused, Refusal, refuse, accepted}
-use Rattle.rules.specs.Kinds.{StringInner, HoleOpen, isEscape}
-use Rattle.rules.specs.Lexing.{Lexeme, lexeme}
 use Rattle.rules.specs.Utf8.{encode}
-use Rattle.rules.specs.Output.{endOf, chunk, overwritten}
-use Rattle.rules.specs.Escapes.{escapeScalar, verdictOn, unescape, scalarPut, Unescapes}
+use Rattle.rules.specs.Refusals.{OutputFull}
+use Rattle.rules.specs.Spans.{Span, bytesAt}
+use Rattle.rules.specs.Answers.{Answer, given, refused, Refusal, refuse, accepted, verdictOn}
+use Rattle.rules.specs.Kinds.{StringInner, HoleOpen, isEscape}
+use Rattle.rules.specs.Lent.{Lexeme, lexeme}
+use Rattle.rules.specs.Output.{endOf, piece, overwritten}
+use Rattle.rules.specs.Escapes.{escapeScalar, unescape, scalarPut, Unescapes}
 use Rattle.rules.specs.Indent.{partVerdict}
 use Rattle.rules.specs.Value.{dedented, partBytes, escapeVerdict}
-use Rattle.rules.proofs.Text.{decide}
+use Rattle.rules.proofs.Text.{decide, both}
 use Rattle.list.specs.Entries.{firstOf}
 use Rattle.cst.specs.Meaning.{ifPart}
-use Rattle.string.proofs.Lines.{checked-kind, is-part-same, no-part-kind}
+use Rattle.cst.proofs.Told.{part-same, no-part-kind}
+use Rattle.string.proofs.Lines.{checked-kind}
 use Rattle.output.specs.Places.{Put}
 use Rattle.output.proofs.Overwritten.{put-true, put-false, overwritten-nothing, written-one-fits, written-one-not}
-use Rattle.value.specs.Pieces.{Good, AllGood, PartWritten}
+use Rattle.value.specs.Pieces.{PartAccepted, PartsAccepted, PartWritten}
 use Rattle.value.proofs.Refusing.{accepted-refused, given-same, first-each}
 
 -- each of the parts that nothing is said against is such a part
-pub all-good : (text : List ℕ) (ps : List Lexeme) (i : ℕ) → AllGood text ps → i < length ps → Good text (firstOf (drop i ps))
+pub all-good : (text : List ℕ) (ps : List Lexeme) (i : ℕ) → PartsAccepted text ps → i < length ps → PartAccepted text (firstOf (drop i ps))
 all-good text ps i g lt = record { inside = first-each (partVerdict text) ps i (g .inside) lt; escape = first-each (escapeVerdict text) ps i (g .escapes) lt }
 
--- both of two tests pass
-both : (a b : Bool) → a && b ≡ true → (a ≡ true) × (b ≡ true)
-both true b e = (refl, e)
-both false b e = absurd (false≢true e)
-
 -- a lexeme that nothing is said against is a part
-pub good-some : {P : Type 0} (text : List ℕ) (l : Lexeme) → Good text l → none ≡ ifPart l → P
+pub good-some : {P : Type 0} (text : List ℕ) (l : Lexeme) → PartAccepted text l → none ≡ ifPart l → P
 good-some text l g e = absurd (false≢true (sym (no-part-kind l e) ∙ checked-kind text l (g .inside)))
 
 -- and nothing is said against the part that it is
-pub good-known : (text : List ℕ) (l q : Lexeme) → Good text l → some q ≡ ifPart l → Good text q
-good-known text l q g e = rw (is-part-same l q e) g
+pub good-known : (text : List ℕ) (l q : Lexeme) → PartAccepted text l → some q ≡ ifPart l → PartAccepted text q
+good-known text l q g e = rw (part-same l q e) g
 
 module _ (text : List ℕ) (indent : ℕ) (p : Lexeme) (at : ℕ) (out : List ℕ) where
   -- a hole gives no byte
@@ -89,12 +86,12 @@ module _ (text : List ℕ) (s : Span) (k at : ℕ) (out : List ℕ) (u : ℕ) (e
   -- an escape that fits
   unescape-fits : at + length (encode u) ≤ endOf out → unescape text s k out at ≡ record { answer = given (length (encode u)); output = overwritten out at (encode u) }
   unfolding unescape scalarPut
-  unescape-fits h = rw (e, written-one-fits (endOf out) at (chunk (encode u) s) h) refl
+  unescape-fits h = rw (e, written-one-fits (endOf out) at (piece (encode u) s) h) refl
 
   -- one that does not fit
   unescape-not : endOf out < at + length (encode u) → unescape text s k out at ≡ record { answer = refuse OutputFull s; output = out }
   unfolding unescape scalarPut
-  unescape-not h = rw (e, written-one-not (endOf out) at (chunk (encode u) s) h, overwritten-nothing out at) refl
+  unescape-not h = rw (e, written-one-not (endOf out) at (piece (encode u) s) h, overwritten-nothing out at) refl
 
 module _ (text : List ℕ) (indent : ℕ) (s : Span) (k at : ℕ) (out : List ℕ) (escape : isEscape k ≡ true) (good : escapeVerdict text (lexeme k s) ≡ accepted) where
   -- the scalar value of an escape that is not refused

@@ -5,9 +5,8 @@ use native.Mathlib.Omega.{arith}
 use mathlib.Core.Path.{_≡_, refl, sym, ap, _∙_}
 use mathlib.Core.List.{List, [], _∷_}
 use lib.ListN.{length, take, drop, length-take, drop-of-length-le}
-use Rattle.rules.specs.Spans.{Answer, given, refused, Refusal, Verdict, accepted}
-use Rattle.rules.specs.Lexing.{Lexeme}
-use Rattle.rules.specs.Indent.{andThen, firstRefusal}
+use Rattle.rules.specs.Answers.{Answer, given, refused, Refusal, Verdict, accepted, andThen, firstRefusal}
+use Rattle.rules.specs.Lent.{Lexeme}
 use Rattle.list.specs.Entries.{firstOf}
 use Rattle.list.proofs.Entries.{first-drop, first-taken}
 

@@ -6,11 +6,12 @@ use mathlib.Core.Bool.{true, false, false≢true}
 use mathlib.Core.List.{List, [], _∷_}
 use lib.Dec.{eqb}
 use lib.ListN.{length}
-use Rattle.rules.specs.Spans.{bytesAt, Answer, given, refused, Verdict}
-use Rattle.rules.specs.Lexing.{Lexeme}
+use Rattle.rules.specs.Spans.{bytesAt}
+use Rattle.rules.specs.Answers.{Answer, given, refused, Verdict}
 use Rattle.rules.specs.Kinds.{StringInner}
+use Rattle.rules.specs.Lent.{Lexeme}
 use Rattle.rules.specs.Output.{endOf, written}
-use Rattle.rules.specs.Value.{dedented, partBytes, valueChunks, isUnbroken, inText, textPart, outputPart, valueWritten}
+use Rattle.rules.specs.Value.{dedented, partBytes, valuePieces, isUnbroken, inText, textPart, outputPart, valueWritten}
 use Rattle.list.specs.Entries.{firstOf}
 use Rattle.value.specs.Meaning.{outputFrom}
 use Rattle.value.specs.Pieces.{reachedFrom, AllWritten, WrittenValue}
@@ -51,7 +52,7 @@ pub value-in-output : (text : List ℕ) (indent : ℕ) (ps : List Lexeme) (at : 
     → AllWritten text indent ps at out r out′ → WrittenValue text indent ps at out (outputFrom at r) out′
 unfolding valueWritten
 value-in-output text indent ps at out e w =
-    let all = written (endOf out) at (valueChunks text indent ps) in
+    let all = written (endOf out) at (valuePieces text indent ps) in
     record { answered = rw (e, w .answered) (reached (length (all .bytes)) (all .verdict)); output = rw e (w .output) }
   where
     reached : (n : ℕ) (v : Verdict) → outputFrom at (reachedFrom at n v) ≡ outputPart at n v

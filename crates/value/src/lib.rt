@@ -7,13 +7,13 @@ use source::Refusal;
 pub use valuing::value;
 
 // Where a value stands: from a start to an end of the text, or of the output.
-pub enum Where {
+pub enum Held {
     Text(usize, usize),
     Output(usize, usize),
 }
 
 pub enum Answer {
-    Found(Where),
+    Found(Held),
     Refused(Refusal),
 }
 
@@ -21,12 +21,6 @@ pub enum Answer {
 pub struct Valued {
     pub answer: Answer,
     pub parts: usize,
-}
-
-// Nothing is said against the parts, or one is refused.
-pub enum Verdict {
-    Accepted,
-    Refused(Refusal),
 }
 
 // Where in the output the next piece begins, or why one was not written.

@@ -1,57 +1,33 @@
 // One piece of a value.
 ghost use mathlib.Core.Path.{_≡_};
-ghost use Prim.Native.Nat.{min};
-ghost use lib.ListN.{length};
 ghost use mathlib.Core.Bool.{true};
-ghost use Rattle.rules.specs.Spans.{refuse};
+ghost use Rattle.rules.specs.Refusals.{OutputFull};
+ghost use Rattle.rules.specs.Answers.{refuse, verdictOn};
 ghost use Rattle.rules.specs.Kinds.{StringInner, isEscape};
-ghost use Rattle.rules.specs.Lexing.{lexeme};
-ghost use Rattle.rules.specs.Escapes.{verdictOn};
+ghost use Rattle.rules.specs.Lent.{lexeme};
 ghost use Rattle.rules.specs.Value.{dedented, escapeVerdict};
-ghost use Rattle.source.specs.Meaning.{spanMeant};
+ghost use Rattle.source.specs.Meaning.{spanMeant, verdictMeant};
 ghost use Rattle.list.specs.Entries.{entryMeant};
 ghost use Rattle.output.specs.Places.{Put};
 ghost use Rattle.cst.specs.Meaning.{partMeant};
 ghost use Rattle.string.specs.Meaning.{decodedMeant};
-ghost use Rattle.value.specs.Meaning.{verdictMeant, reachedMeant};
-ghost use Rattle.value.specs.Pieces.{takenOff, Good, PartWritten};
+ghost use Rattle.value.specs.Meaning.{reachedMeant};
+ghost use Rattle.value.specs.Pieces.{PartAccepted, PartWritten};
 use crate::Reached;
-use crate::Verdict;
-use cst::Known;
+use cst::AsPart;
 use cst::StringPart;
 use list::Entry;
+use rules::refusal;
 use source::Span;
+use source::Verdict;
 use string::Decoded;
 use string::Unescaped;
-
-fn least(a: usize, b: usize) -> usize
-    ensures { λ r. ⌜ r ≡ min a b ⌝ }
-{
-    if a < b { a } else { b }
-}
-
-// How many spaces the indent takes off: "after each leading LF, as far as spaces go".
-fn taken_off(line: &[u8], indent: usize) -> usize
-    ensures { λ r. ⌜ r ≡ takenOff indent (now (line .entry)) ⌝ }
-{
-    if !string::starts_line(line) {
-        return 0;
-    }
-    least(indent, string::leading_spaces(line))
-}
-
-// How many bytes a String part gives.
-pub(crate) fn string_length(line: &[u8], indent: usize) -> usize
-    ensures { λ r. ⌜ r ≡ length (dedented indent (now (line .entry))) ⌝ }
-{
-    line.len() - taken_off(line, indent)
-}
 
 // Writes the bytes of a String part, whole or not.
 fn put_string(line: &[u8], indent: usize, output: &mut [u8], position: usize) -> bool
     ensures { λ r. ⌜ Put (dedented indent (now (line .entry))) position (now (output .entry)) r (now (output .exit)) ⌝ }
 {
-    let n = taken_off(line, indent);
+    let n = string::taken_off(line, indent);
     if n == 0 {
         return output::put(line, output, position);
     }
@@ -59,9 +35,9 @@ fn put_string(line: &[u8], indent: usize, output: &mut [u8], position: usize) ->
 }
 
 fn not_written(span: Span) -> Reached
-    ensures { λ r. ⌜ reachedMeant r ≡ refuse 46 (spanMeant span) ⌝ }
+    ensures { λ r. ⌜ reachedMeant r ≡ refuse OutputFull (spanMeant span) ⌝ }
 {
-    Reached::Refused(source::refuse(46, span))
+    Reached::Refused(source::refuse(refusal::OUTPUT_FULL, span))
 }
 
 fn verdict_on(answer: Decoded) -> Verdict
@@ -91,7 +67,7 @@ pub(crate) fn check_escape(text: &[u8], entry: Entry) -> Verdict
     ensures { λ r. ⌜ verdictMeant r ≡ escapeVerdict (now (text .entry)) (entryMeant entry) ⌝ }
 {
     let known = cst::part(entry);
-    let Known::Part(part) = known else {
+    let AsPart::Part(part) = known else {
         return Verdict::Accepted;
     };
     check_part(text, part)
@@ -105,14 +81,14 @@ fn write_string(
     output: &mut [u8],
     position: usize,
 ) -> Reached
-    requires { ⌜ Good (now text) (lexeme StringInner (spanMeant span)) ⌝ }
+    requires { ⌜ PartAccepted (now text) (lexeme StringInner (spanMeant span)) ⌝ }
     ensures { λ r. ⌜ PartWritten (now (text .entry)) indent (lexeme StringInner (spanMeant span)) position (now (output .entry)) (reachedMeant r) (now (output .exit)) ⌝ }
 {
     let line = source::resolve(text, span);
     if !put_string(line, indent, output, position) {
         return not_written(span);
     }
-    Reached::To(position + string_length(line, indent))
+    Reached::To(position + string::line_length(line, indent))
 }
 
 // Writes an Escape part of a kind.
@@ -124,7 +100,7 @@ fn write_escape(
     output: &mut [u8],
     position: usize,
 ) -> Reached
-    requires { ⌜ Good (now text) (lexeme kind (spanMeant span)) × (isEscape kind ≡ true) ⌝ }
+    requires { ⌜ PartAccepted (now text) (lexeme kind (spanMeant span)) × (isEscape kind ≡ true) ⌝ }
     ensures { λ r. ⌜ PartWritten (now (text .entry)) indent (lexeme kind (spanMeant span)) position (now (output .entry)) (reachedMeant r) (now (output .exit)) ⌝ }
 {
     let answer = string::unescape_into(text, span, kind, output, position);
@@ -142,7 +118,7 @@ pub(crate) fn write_part(
     output: &mut [u8],
     position: usize,
 ) -> Reached
-    requires { ⌜ Good (now text) (partMeant part) ⌝ }
+    requires { ⌜ PartAccepted (now text) (partMeant part) ⌝ }
     ensures { λ r. ⌜ PartWritten (now (text .entry)) indent (partMeant part) position (now (output .entry)) (reachedMeant r) (now (output .exit)) ⌝ }
 {
     match part {

@@ -1,17 +1,19 @@
 // The pieces of a value, written one after another.
 ghost use mathlib.Core.Path.{_≡_};
 ghost use lib.ListN.{take};
-ghost use Rattle.rules.specs.Lexing.{lexemesIn};
-ghost use Rattle.rules.specs.Indent.{firstRefusal, partVerdict};
-ghost use Rattle.rules.specs.Spans.{accepted};
+ghost use Rattle.rules.specs.Answers.{firstRefusal, accepted};
+ghost use Rattle.rules.specs.Lent.{lexemesIn};
+ghost use Rattle.rules.specs.Indent.{partVerdict};
 ghost use Rattle.rules.specs.Value.{escapeVerdict, isUnbroken};
-ghost use Rattle.value.specs.Meaning.{verdictMeant, reachedMeant};
-ghost use Rattle.value.specs.Pieces.{AllGood, AllWritten};
+ghost use Rattle.source.specs.Meaning.{verdictMeant};
+ghost use Rattle.value.specs.Meaning.{reachedMeant};
+ghost use Rattle.value.specs.Pieces.{PartsAccepted, AllWritten};
 use crate::Reached;
-use crate::Verdict;
 use crate::piece;
-use cst::Known;
+use cst::AsPart;
 use cst::StringPart;
+use rules::refusal;
+use source::Verdict;
 
 // The first refusal of an escape.
 pub(crate) fn check_escapes(text: &[u8], kinds: &[u8], words: &[u64], count: usize) -> Verdict
@@ -47,14 +49,14 @@ pub(crate) fn is_unbroken(
     }
     let entry = list::get(kinds, words, 0);
     let known = cst::part(entry);
-    let Known::Part(part) = known else {
+    let AsPart::Part(part) = known else {
         return false;
     };
     let StringPart::String(span) = part else {
         return false;
     };
     let line = source::resolve(text, span);
-    piece::string_length(line, indent) == line.len()
+    string::line_length(line, indent) == line.len()
 }
 
 // Writes every piece. "a position past its end gives 46", also where there is nothing to write.
@@ -67,7 +69,7 @@ pub(crate) fn write_parts(
     output: &mut [u8],
     position: usize,
 ) -> Reached
-    requires { ⌜ AllGood (now text) (take count (lexemesIn (now kinds) (now words))) ⌝ }
+    requires { ⌜ PartsAccepted (now text) (take count (lexemesIn (now kinds) (now words))) ⌝ }
     ensures { λ r. ⌜ AllWritten (now (text .entry)) indent (take count (lexemesIn (now (kinds .entry)) (now (words .entry)))) position (now (output .entry)) (reachedMeant r) (now (output .exit)) ⌝ }
 {
     let end = list::end(kinds, words, count);
@@ -76,7 +78,7 @@ pub(crate) fn write_parts(
     while i < end {
         let entry = list::get(kinds, words, i);
         let known = cst::part(entry);
-        let Known::Part(part) = known else {
+        let AsPart::Part(part) = known else {
             return Reached::To(at);
         };
         let reached = piece::write_part(text, indent, part, output, at);
@@ -87,7 +89,7 @@ pub(crate) fn write_parts(
         i += 1;
     }
     if output::end(output) < at {
-        return Reached::Refused(source::refuse(46, source::nowhere()));
+        return Reached::Refused(source::refuse(refusal::OUTPUT_FULL, source::nowhere()));
     }
     Reached::To(at)
 }

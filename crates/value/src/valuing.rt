@@ -2,28 +2,25 @@
 ghost use mathlib.Core.Path.{_≡_};
 ghost use mathlib.Core.Bool.{cond};
 ghost use lib.ListN.{take};
+ghost use Rattle.rules.specs.Answers.{given};
 ghost use Rattle.rules.specs.Kinds.{isTriple};
-ghost use Rattle.rules.specs.Lexing.{lexemesIn};
-ghost use Rattle.rules.specs.Spans.{given};
+ghost use Rattle.rules.specs.Lent.{lexemesIn, arrays};
 ghost use Rattle.rules.specs.Value.{inText, Values};
-ghost use Rattle.token.specs.Codes.{stateCode};
+ghost use Rattle.source.specs.Meaning.{verdictMeant};
 ghost use Rattle.list.specs.Entries.{entryMeant};
 ghost use Rattle.cst.specs.Meaning.{closerMeant};
 ghost use Rattle.string.specs.Meaning.{indentedMeant};
-ghost use Rattle.value.specs.Meaning.{answerMeant, verdictMeant, reachedMeant, orNowhere, outputFrom};
-ghost use Rattle.value.specs.Pieces.{AllGood, WrittenValue};
+ghost use Rattle.value.specs.Meaning.{answerMeant, reachedMeant, orNowhere, outputFrom};
+ghost use Rattle.value.specs.Pieces.{PartsAccepted, WrittenValue};
 use crate::Answer;
+use crate::Held;
 use crate::Reached;
 use crate::Valued;
-use crate::Verdict;
-use crate::Where;
 use crate::pieces;
 use cst::Closer;
 use list::Entry;
+use source::Verdict;
 use string::Indented;
-use token::Opened;
-use token::QuoteStyle;
-use token::State;
 
 // The refusal of the parts list.
 fn no_parts(closer: Closer) -> Answer
@@ -31,7 +28,7 @@ fn no_parts(closer: Closer) -> Answer
 {
     match closer {
         Closer::Refused(refusal) => Answer::Refused(refusal),
-        Closer::At(_) => Answer::Found(Where::Text(0, 0)),
+        Closer::At(_) => Answer::Found(Held::Text(0, 0)),
     }
 }
 
@@ -41,7 +38,7 @@ fn no_indent(indented: Indented) -> Answer
 {
     match indented {
         Indented::Refused(refusal) => Answer::Refused(refusal),
-        Indented::Spaces(_) => Answer::Found(Where::Text(0, 0)),
+        Indented::Spaces(_) => Answer::Found(Held::Text(0, 0)),
     }
 }
 
@@ -51,39 +48,18 @@ fn no_escapes(verdict: Verdict) -> Answer
 {
     match verdict {
         Verdict::Refused(refusal) => Answer::Refused(refusal),
-        Verdict::Accepted => Answer::Found(Where::Text(0, 0)),
+        Verdict::Accepted => Answer::Found(Held::Text(0, 0)),
     }
 }
 
 // "in triple quotes the indent is taken off"
-fn indent_in(state: State, spaces: usize) -> usize
-    ensures { λ r. ⌜ r ≡ cond (isTriple (stateCode state)) spaces 0 ⌝ }
-{
-    match state {
-        State::String(style) => match style {
-            QuoteStyle::Double => 0,
-            QuoteStyle::Triple => spaces,
-        },
-        State::Format(style) => match style {
-            QuoteStyle::Double => 0,
-            QuoteStyle::Triple => spaces,
-        },
-        State::Brace => 0,
-        State::Paren => 0,
-        State::Bracket => 0,
-        State::Hole => 0,
-    }
-}
-
-// The same by the opener's code.
 fn indent_taken(quote: u8, spaces: usize) -> usize
     ensures { λ r. ⌜ r ≡ cond (isTriple quote) spaces 0 ⌝ }
 {
-    let opened = token::state_of(quote);
-    let Opened::State(state) = opened else {
-        return 0;
-    };
-    indent_in(state, spaces)
+    if token::is_triple(quote) {
+        return spaces;
+    }
+    0
 }
 
 // "handed back as that part of the text"
@@ -91,7 +67,7 @@ fn text_part(entry: Entry) -> Answer
     ensures { λ r. ⌜ answerMeant r ≡ given (inText (entryMeant entry .at .start) (entryMeant entry .at .end)) ⌝ }
 {
     let span = entry.at;
-    Answer::Found(Where::Text(span.start(), span.end()))
+    Answer::Found(Held::Text(span.start(), span.end()))
 }
 
 // "any other as the written part of the output"
@@ -99,7 +75,7 @@ fn output_part(position: usize, reached: Reached) -> Answer
     ensures { λ r. ⌜ answerMeant r ≡ outputFrom position (reachedMeant reached) ⌝ }
 {
     match reached {
-        Reached::To(end) => Answer::Found(Where::Output(position, end)),
+        Reached::To(end) => Answer::Found(Held::Output(position, end)),
         Reached::Refused(refusal) => Answer::Refused(refusal),
     }
 }
@@ -114,7 +90,7 @@ fn write_value(
     output: &mut [u8],
     position: usize,
 ) -> Answer
-    requires { ⌜ AllGood (now text) (take count (lexemesIn (now kinds) (now words))) ⌝ }
+    requires { ⌜ PartsAccepted (now text) (take count (lexemesIn (now kinds) (now words))) ⌝ }
     ensures { λ r. ⌜ WrittenValue (now (text .entry)) indent (take count (lexemesIn (now (kinds .entry)) (now (words .entry)))) position (now (output .entry)) (answerMeant r) (now (output .exit)) ⌝ }
 {
     if pieces::is_unbroken(text, indent, kinds, words, count) {
@@ -136,7 +112,7 @@ pub fn value(
     output: &mut [u8],
     position: usize,
 ) -> Valued
-    ensures { λ r. ⌜ Values (now (text .entry)) (now (kinds .entry)) (now (words .entry)) count place (now (pkinds .entry)) (now (pwords .entry)) (now (output .entry)) position (answerMeant (r .answer)) (r .parts) (now (pkinds .exit)) (now (pwords .exit)) (now (output .exit)) ⌝ }
+    ensures { λ r. ⌜ Values (now (text .entry)) (arrays (now (kinds .entry)) (now (words .entry))) count place (arrays (now (pkinds .entry)) (now (pwords .entry))) (now (output .entry)) position (answerMeant (r .answer)) (r .parts) (arrays (now (pkinds .exit)) (now (pwords .exit))) (now (output .exit)) ⌝ }
 {
     let parted = cst::parts(kinds, words, count, place, pkinds, pwords);
     let parts = parted.parts;

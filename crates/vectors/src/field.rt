@@ -58,10 +58,6 @@ pub(crate) fn is(line: &[u8], start: usize, end: usize, word: &[u8]) -> bool {
     check::same(&line[start..end], word)
 }
 
-fn wide(b: u8) -> u64 {
-    b as u64
-}
-
 // One more decimal digit; a number over 2^64 − 1 does not grow.
 fn shifted(n: u64, b: u8) -> u64 {
     if b < b'0' {
@@ -74,7 +70,7 @@ fn shifted(n: u64, b: u8) -> u64 {
         return n;
     }
     let tens = n * 10;
-    let d = wide(b - b'0');
+    let d = basics::wide(b - b'0');
     if 0xffff_ffff_ffff_ffff - tens < d {
         return n;
     }

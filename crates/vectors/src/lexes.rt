@@ -5,11 +5,11 @@ use crate::lists::MARK;
 use crate::lists::MARKED;
 use crate::lists::print;
 use crate::texts;
-use lexer::Answer;
 use lexer::Lexed;
 use libc::STDOUT_FILENO;
 use source::Note;
 use source::Span;
+use source::Verdict;
 
 // The lengths of the arrays that a call is lent for its list and its stack.
 pub struct Lent {
@@ -25,8 +25,8 @@ fn print_span(span: Span) {
 }
 
 // `accepted`, or `refused`, the number, the span, and the note's span if there is one.
-fn print_answer(answer: Answer) {
-    let Answer::Refused(refusal) = answer else {
+fn print_answer(answer: Verdict) {
+    let Verdict::Refused(refusal) = answer else {
         io::write_all(STDOUT_FILENO, b"accepted");
         return;
     };
@@ -49,10 +49,6 @@ fn print_counts(r: Lexed) {
     print(r.dropped as u64);
     print(r.deepest as u64);
     io::write_all(STDOUT_FILENO, b" ;");
-}
-
-fn greater(a: usize, b: usize) -> usize {
-    if a < b { b } else { a }
 }
 
 // Twice a number of places, which is not large.
@@ -78,8 +74,8 @@ pub(crate) fn print_lexed(
     io::write_all(STDOUT_FILENO, b" ;");
     print(lists::bytes_end(kinds) as u64);
     print(lists::words_end(words) as u64);
-    print(greater(lists::bytes_end(skinds), r.deepest) as u64);
-    print(greater(lists::words_end(swords), twice(r.deepest)) as u64);
+    print(basics::greater(lists::bytes_end(skinds), r.deepest) as u64);
+    print(basics::greater(lists::words_end(swords), twice(r.deepest)) as u64);
 }
 
 // Lexes into the beginnings of longer arrays.

@@ -29,16 +29,11 @@ pub(crate) fn words_of(words: &[u64], n: usize) -> usize
 
 // A number in decimal, a space before it.
 pub(crate) fn print(n: u64) {
-    io::write_all(STDOUT_FILENO, b" ");
-    io::print_decimal(STDOUT_FILENO, n);
+    printing::print_next(STDOUT_FILENO, n);
 }
 
 fn narrow(n: u64) -> u8 {
     (n % 256) as u8
-}
-
-fn wide(b: u8) -> u64 {
-    b as u64
 }
 
 // Reads the list that begins at `start`, as much of it as there is room for.
@@ -64,17 +59,14 @@ pub(crate) fn read_list(line: &[u8], start: usize, kinds: &mut [u8], words: &mut
 
 // Kind and span words of the first entries of a list.
 pub(crate) fn print_list(kinds: &[u8], words: &[u64], entries: usize) {
+    let end = list::end(kinds, words, entries);
     let mut i: usize = 0;
-    while i < entries {
-        if kinds.len() <= i {
-            return;
-        }
-        if words.len() / 2 <= i {
-            return;
-        }
-        print(wide(kinds[i]));
-        print(words[i * 2]);
-        print(words[i * 2 + 1]);
+    while i < end {
+        let entry = list::get(kinds, words, i);
+        let at = entry.at;
+        print(basics::wide(entry.kind));
+        print(at.low);
+        print(at.high);
         i += 1;
     }
 }

@@ -12,7 +12,7 @@ use string::Decoded;
 use string::Indented;
 use string::Unescaped;
 use value::Answer;
-use value::Where;
+use value::Held;
 
 fn kind_code(line: &[u8], a: usize) -> u8 {
     (field::number(line, a) % 256) as u8
@@ -50,7 +50,7 @@ pub(crate) fn identifier(line: &[u8], a: usize) {
 pub(crate) fn keyword(line: &[u8], a: usize) {
     let mut bytes = [0u8; 256];
     let n = texts::read_bytes(line, a, &mut bytes);
-    print_verdict(lexer::is_keyword(&bytes[..n]));
+    print_verdict(sublexers::is_keyword(&bytes[..n]));
 }
 
 // `scalar LOW HIGH KIND BYTES`
@@ -210,14 +210,14 @@ pub(crate) fn parts(line: &[u8], a: usize) {
 }
 
 // Where a value stands: `text START END` or `output START END`.
-fn print_where(held: Where) {
+fn print_where(held: Held) {
     match held {
-        Where::Text(start, end) => {
+        Held::Text(start, end) => {
             io::write_all(STDOUT_FILENO, b"text");
             lists::print(start as u64);
             lists::print(end as u64);
         }
-        Where::Output(start, end) => {
+        Held::Output(start, end) => {
             io::write_all(STDOUT_FILENO, b"output");
             lists::print(start as u64);
             lists::print(end as u64);

@@ -7,9 +7,9 @@ use crate::lists::MARK;
 use crate::lists::MARKED;
 use crate::strings;
 use crate::texts;
-use hand::Checked;
 use libc::STDOUT_FILENO;
-use value::Where;
+use source::Verdict;
+use value::Held;
 
 // The lent part of an output.
 fn print_output(bytes: &[u8; 264], places: usize) {
@@ -58,22 +58,22 @@ pub(crate) fn tidy(line: &[u8], a: usize) {
     );
 }
 
-fn print_checked(checked: Checked) {
+fn print_checked(checked: Verdict) {
     match checked {
-        Checked::Inside => {
+        Verdict::Accepted => {
             io::write_all(STDOUT_FILENO, b"given");
         }
-        Checked::Refused(refusal) => strings::print_refused(refusal),
+        Verdict::Refused(refusal) => strings::print_refused(refusal),
     }
     io::write_all(STDOUT_FILENO, b" ;");
 }
 
 // A part: of the text where `which` is 0.
-fn part(which: usize, start: usize, end: usize) -> Where {
+fn part(which: usize, start: usize, end: usize) -> Held {
     if which == 0 {
-        return Where::Text(start, end);
+        return Held::Text(start, end);
     }
-    Where::Output(start, end)
+    Held::Output(start, end)
 }
 
 // `hand WHICH START END OUTPUTBYTES BYTES`

@@ -6,22 +6,18 @@ use crate::lists::MARK;
 use crate::lists::MARKED;
 use crate::strings;
 use crate::texts;
-use lexer::Lexeme;
 use lexer::StepAnswer;
 use lexer::Stepped;
+use lexer::TokenAt;
 use libc::STDOUT_FILENO;
 use source::Note;
 use source::Refusal;
 use walker::Kept;
 
-fn wide(b: u8) -> u64 {
-    b as u64
-}
-
-fn print_lexeme(lexeme: Lexeme) {
+fn print_lexeme(lexeme: TokenAt) {
     let at = lexeme.at;
     io::write_all(STDOUT_FILENO, b"lexeme");
-    lists::print(wide(lexeme.kind));
+    lists::print(basics::wide(lexeme.kind));
     lists::print(at.low);
     lists::print(at.high);
 }

@@ -6,8 +6,11 @@ use mathlib.Core.Option.{some}
 use native.Mathlib.Omega.{arith}
 use lib.Dec.{leb}
 use borrow.Author.Tests.{leb-true, leb-false, lt-ltb, le-ltb}
+use Rattle.rules.specs.Lent.{arrays}
 use Rattle.rules.specs.Refusals.{BadSpan, NotUtf8, WrongForm}
-use Rattle.rules.specs.Spans.{Span, span, nowhere, limit, Refusal as RefusalRule, refusal, given, refuse, newSpan}
+use Rattle.rules.specs.Spans.{Span, span, nowhere, limit}
+use Rattle.rules.specs.Answers.{Refusal as RefusalRule, refusal, given, refuse}
+use Rattle.rules.specs.Source.{newSpan}
 use Rattle.rules.specs.Walker.{Kept, keptBad, keptRefusal, walking}
 use Rattle.rules.proofs.Text.{decide}
 use Rattle.source.specs.Meaning.{refusalMeant}
@@ -43,6 +46,6 @@ bad-refused doc at r q e = decide (leb at limit)
     (λ h. rw (h, e))
 
 -- what is kept is given, and nothing changes
-pub gives-walks : (text ks ws : List ℕ) (doc at depth : ℕ) (k : Kept) (r : Refusal) → keptRefusal doc k ≡ some (refusalMeant r) → Walks text (walkerAt doc at depth k) ks ws (steppedBy (Refused r) at depth) ks ws
+pub gives-walks : (text ks ws : List ℕ) (doc at depth : ℕ) (k : Kept) (r : Refusal) → keptRefusal doc k ≡ some (refusalMeant r) → Walks text (walkerAt doc at depth k) (arrays ks ws) (steppedBy (Refused r) at depth) (arrays ks ws)
 unfolding walking
-gives-walks text ks ws doc at depth k r e = record { answer = rw e; coded = tt; position = rw e; depth = rw e; kinds = rw e; words = rw e }
+gives-walks text ks ws doc at depth k r e = record { answer = rw e; coded = tt; position = rw e; depth = rw e; stacked = rw e }

@@ -3,6 +3,7 @@ use Prim.Native.Nat.{ℕ}
 use mathlib.Core.Path.{_≡_}
 use mathlib.Core.List.{List}
 use denote.Ref.{RefT, now}
+use Rattle.rules.specs.Lent.{Arrays}
 use Rattle.rules.specs.Walker.{opening}
 use Rattle.lexer.specs.Stepping.{walkerAt, Walks}
 use Rattle.lexer.specs.declared.Stepped.{Stepped}
@@ -23,8 +24,8 @@ abbrev pub steppedOf : Walked → Stepped
 steppedOf r = record { answer = r .answer; position = r .next .position; depth = r .next .depth }
 
 -- one step of a walker: the rule's, and the next walker has the text, the document and what is kept of the one before
-pub record Steps (w : Walker) (ks ws : List ℕ) (r : Walked) (ks′ ws′ : List ℕ) : Type 0 where
-  pub walks : Walks (now (w .text)) (walkerAt (w .doc) (w .position) (w .depth) (keptMeant (w .kept))) ks ws (steppedOf r) ks′ ws′
+pub record Steps (w : Walker) (stack : Arrays) (r : Walked) (stack′ : Arrays) : Type 0 where
+  pub walks : Walks (now (w .text)) (walkerAt (w .doc) (w .position) (w .depth) (keptMeant (w .kept))) stack (steppedOf r) stack′
   pub text : r .next .text ≡ w .text
   pub doc : r .next .doc ≡ w .doc
   pub kept : r .next .kept ≡ w .kept

@@ -1,5 +1,6 @@
 // The walker: lexing step by step, with a stack in two lent arrays that the caller keeps.
 ghost use mathlib.Core.Path.{_≡_};
+ghost use Rattle.rules.specs.Lent.{arrays};
 ghost use Rattle.rules.specs.Walker.{keptOf, keptBad};
 ghost use Rattle.source.specs.Meaning.{refusalMeant};
 ghost use Rattle.lexer.specs.declared.StepAnswer.the-variants.{Refused};
@@ -35,7 +36,7 @@ fn kept_of(text: &[u8]) -> Kept
 }
 
 // Refusal 1 at a position; 40 at 0-0 where no span can have it.
-fn bad_at(doc: u32, bad: usize) -> Refusal
+pub fn bad_at(doc: u32, bad: usize) -> Refusal
     ensures { λ r. ⌜ refusalMeant r ≡ keptBad doc bad ⌝ }
 {
     let made = Span::new(doc, bad, bad);
@@ -66,7 +67,7 @@ fn step_at(
     skinds: &mut [u8],
     swords: &mut [u64],
 ) -> Stepped
-    ensures { λ r. ⌜ Walks (now (text .entry)) (walkerAt doc position depth (keptMeant kept)) (now (skinds .entry)) (now (swords .entry)) r (now (skinds .exit)) (now (swords .exit)) ⌝ }
+    ensures { λ r. ⌜ Walks (now (text .entry)) (walkerAt doc position depth (keptMeant kept)) (arrays (now (skinds .entry)) (now (swords .entry))) r (arrays (now (skinds .exit)) (now (swords .exit))) ⌝ }
 {
     match kept {
         Kept::TooLong => {
@@ -117,7 +118,7 @@ pub fn open_from(doc: u32, text: &[u8]) -> Kept
 
 // One step, given a stack.
 pub fn step<'a>(w: Walker<'a>, skinds: &mut [u8], swords: &mut [u64]) -> Walked<'a>
-    ensures { λ r. ⌜ Steps (w .entry) (now (skinds .entry)) (now (swords .entry)) r (now (skinds .exit)) (now (swords .exit)) ⌝ }
+    ensures { λ r. ⌜ Steps (w .entry) (arrays (now (skinds .entry)) (now (swords .entry))) r (arrays (now (skinds .exit)) (now (swords .exit))) ⌝ }
 {
     let s = step_at(w.doc, w.text, w.position, w.depth, w.kept, skinds, swords);
     Walked {
@@ -142,7 +143,7 @@ pub fn step_from(
     skinds: &mut [u8],
     swords: &mut [u64],
 ) -> Stepped
-    ensures { λ r. ⌜ Walks (now (text .entry)) (walkerAt doc position depth (keptMeant kept)) (now (skinds .entry)) (now (swords .entry)) r (now (skinds .exit)) (now (swords .exit)) ⌝ }
+    ensures { λ r. ⌜ Walks (now (text .entry)) (walkerAt doc position depth (keptMeant kept)) (arrays (now (skinds .entry)) (now (swords .entry))) r (arrays (now (skinds .exit)) (now (swords .exit))) ⌝ }
 {
     let r = step(
         Walker {

@@ -1,4 +1,4 @@
--- A walk of the MIR by hand: a copy of each slice is made shorter, to the result's lifetime (`shorter`), and `hand_one` is called there; of it only its contract is used.
+-- A walk of the MIR by hand: a copy of each slice is made shorter, to the result's lifetime (`shorter`), and `hand_in_one_lifetime` is called there; of it only its contract is used.
 use mathlib.Core.Path.{_≡_, refl}
 use Prim.Native.Nat.{ℕ}
 use mathlib.Core.List.{List, [], _∷_}
@@ -38,15 +38,15 @@ use denote.Triple.Walked.{says, Stays, stay-none, stay-none-slice, walkOf, goes-
 use denote.Exit.{yes}
 use denote.Triple.Clauses.{ensured, lasts}
 use Rattle.rules.specs.Value.{handed}
-use Rattle.value.specs.Meaning.{whereMeant}
+use Rattle.value.specs.Meaning.{heldMeant}
 use Rattle.hand.specs.Meaning.{handedAt}
-use Rattle.value.specs.declared.Where.{Where}
-use Rattle.value.proofs.Where as T
-use Rattle.value.proofs.Where.Laws as T′
-use Rattle.hand.proofs.hand_one as one
-use Rattle.hand.proofs.hand_one.Symbol as one-def
-use Rattle.hand.proofs.hand_one.Symbol.{name as #hand·hand-one}
-use Rattle.hand.proofs.hand_one.Met as one-thm
+use Rattle.value.specs.declared.Held.{Held}
+use Rattle.value.proofs.Held as T
+use Rattle.value.proofs.Held.Laws as T′
+use Rattle.hand.proofs.hand_in_one_lifetime as one
+use Rattle.hand.proofs.hand_in_one_lifetime.Symbol as one-def
+use Rattle.hand.proofs.hand_in_one_lifetime.Symbol.{name as #hand·hand-in-one-lifetime}
+use Rattle.hand.proofs.hand_in_one_lifetime.Met as one-thm
 use Rattle.hand.proofs.hand.Key.{name as #hand·hand}
 use Rattle.hand.proofs.hand as hand
 use Rattle.hand.proofs.hand.Statement as stated
@@ -68,7 +68,7 @@ module _ {M : Type 1} (𝓤 : URA M) (H : Heap 𝓤) (A : Atoms 𝓤) (W : Given
       use1 W (‵ (fshr-bor κ′ (λ q. arr-parts (shares u8) (length (x .now)) .part q (x .now) (x .ptr .0) (x .ptr .1)))) (W .shr-bors .shr-bor-shorten κ κ′ (λ q. arr-parts (shares u8) (length (x .now)) .part q (x .now) (x .ptr .0) (x .ptr .1)) inc) $
       move ! (1 ∷ 2 ∷ 0 ∷ []) $ fjoin3 ! $ done !
 
-module _ {M : Type 1} (𝓤 : URA M) (H : Heap 𝓤) (A : Atoms 𝓤) (W : Given 𝓤 H A) (mem : Memory → SProp 𝓤) (run : Routine → Fun 𝓤) (κt κo κr : Lft) (qt qo qr : Share) (bt : κr ⊑ κt) (bo : κr ⊑ κo) (t o : RefT (List ℕ)) (w : Where) where
+module _ {M : Type 1} (𝓤 : URA M) (H : Heap 𝓤) (A : Atoms 𝓤) (W : Given 𝓤 H A) (mem : Memory → SProp 𝓤) (run : Routine → Fun 𝓤) (κt κo κr : Lft) (qt qo qr : Share) (bt : κr ⊑ κt) (bo : κr ⊑ κo) (t o : RefT (List ℕ)) (w : Held) where
   abbrev κs : Lfts 3
   κs = (κt, (κo, (κr, tt)))
 
@@ -84,10 +84,10 @@ module _ {M : Type 1} (𝓤 : URA M) (H : Heap 𝓤) (A : Atoms 𝓤) (W : Given
 
   -- the bytes that are handed back, and where they stand
   abbrev bytes : List ℕ
-  bytes = handed (now t) (now o) (whereMeant w)
+  bytes = handed (now t) (now o) (heldMeant w)
 
   abbrev place : ℕ × ℕ
-  place = handedAt t o (whereMeant w)
+  place = handedAt t o (heldMeant w)
 
   abbrev at : Vals hand.signature κs
   at = (vt ∷ [], (vo ∷ [], (vw ∷ [], tt)))
@@ -142,7 +142,7 @@ module _ {M : Type 1} (𝓤 : URA M) (H : Heap 𝓤) (A : Atoms 𝓤) (W : Given
       suffices ! _ (assoc∗ 𝓤 (onExit 𝓤 H A hand.ended stayed κs (qt, (qo, (qr, tt))) at u r (t, (o, (w, tt))) (tt, (tt, (tt, tt)))) (fact 𝓤 (now r ≡ bytes)) (fact 𝓤 (ptr r ≡ place))) $ says ! p $ says ! e $
       move ! (2 ∷ []) $ fsplit3 ! $ move ! (1 ∷ 4 ∷ []) $ join ! $ move ! (1 ∷ 0 ∷ []) $ join ! $ frame ! $ frame ! $ done !
 
-  module _ (C : Calls 𝓤 H) (Λ : Loops 𝓤 H) (fm : FmC 𝓤 H (W .laws) C) (known : Triple 𝓤 (C #hand·hand-one) (One 𝓤 H A mem run)) where
+  module _ (C : Calls 𝓤 H) (Λ : Loops 𝓤 H) (fm : FmC 𝓤 H (W .laws) C) (known : Triple 𝓤 (C #hand·hand-in-one-lifetime) (One 𝓤 H A mem run)) where
     walk : Is (ShrSlice (named 0) κt u8) t (vt ∷ []) → Is (ShrSlice (named 1) κo u8) o (vo ∷ []) → Is T.the-row w (vw ∷ []) → ent 𝓤 (onEntry 𝓤 H A hand.signature κs (qt, (qo, (qr, tt))) (t, (o, (w, tt))) at) (WpFn 𝓤 H C Λ code.function (vt ∷ vo ∷ vw ∷ []) Post)
     walk pt po pw =
         qed W (raw (onEntry 𝓤 H A hand.signature κs (qt, (qo, (qr, tt))) (t, (o, (w, tt))) at) ∷ []) ∵ enter ! C Λ code.function (vt ∷ vo ∷ vw ∷ []) _ $
@@ -160,13 +160,13 @@ module _ {M : Type 1} (𝓤 : URA M) (H : Heap 𝓤) (A : Atoms 𝓤) (W : Given
         move ! (9 ∷ 10 ∷ []) $ free1 ! $ move ! (7 ∷ 8 ∷ []) $ free1 ! $ move ! (5 ∷ 6 ∷ []) $ free1 ! $ move ! (3 ∷ 4 ∷ []) $ free1 ! $ free0 ! $ by ! (exits r u e p))))))))))
 
 module _ {M : Type 1} (𝓤 : URA M) (H : Heap 𝓤) (A : Atoms 𝓤) (W : Given 𝓤 H A) (mem : Memory → SProp 𝓤) (run : Routine → Fun 𝓤) where
-  hand-walks : (C : Calls 𝓤 H) (Λ : Loops 𝓤 H) → FmC 𝓤 H (W .laws) C → Triple 𝓤 (C #hand·hand-one) (One 𝓤 H A mem run)
+  hand-walks : (C : Calls 𝓤 H) (Λ : Loops 𝓤 H) → FmC 𝓤 H (W .laws) C → Triple 𝓤 (C #hand·hand-in-one-lifetime) (One 𝓤 H A mem run)
       → Walks 𝓤 H A hand.ended stayed (WpFn 𝓤 H C Λ code.function) (hand.clauses 𝓤 H A mem run)
   hand-walks C Λ fm known = walked 𝓤 H A hand.ended stayed (hand.clauses 𝓤 H A mem run) (WpFn 𝓤 H C Λ code.function) (λ κs. (slice-vals, (slice-vals, (LL.vals T.the-type T′.the-laws, tt)))) (λ κs. (shr-slice-tells (named 0) (κs .0) u8, (shr-slice-tells (named 1) (κs .1 .0) u8, (LL.tells T.the-type T′.the-laws, tt))))
       (λ κs qs bounds a g are. via 𝓤 _ (fst∗ 𝓤 _ (emp 𝓤)) (walk 𝓤 H A W mem run (κs .0) (κs .1 .0) (κs .1 .1 .0) (qs .0) (qs .1 .0) (qs .1 .1 .0) (bounds .0) (bounds .1 .0) (a .0) (a .1 .0) (a .1 .1 .0) C Λ fm known (are .0) (are .1 .0) (are .1 .1 .0)))
 
 hand-meets : {M : Type 1} (𝓤 : URA M) (H : Heap 𝓤) (A : Atoms 𝓤) (W : Given 𝓤 H A) (mem : Memory → SProp 𝓤) (run : Routine → Fun 𝓤) (𝓣 : Tables 𝓤 H)
-    → Triple 𝓤 (𝓣 .C #hand·hand-one) (One 𝓤 H A mem run)
+    → Triple 𝓤 (𝓣 .C #hand·hand-in-one-lifetime) (One 𝓤 H A mem run)
     → Meets 𝓤 H A hand.signature (WpFn 𝓤 H (𝓣 .C) (𝓣 .Λ) code.function) (hand.spec 𝓤 H A mem run)
 hand-meets 𝓤 H A W mem run 𝓣 known-one = walk-meets 𝓤 H A hand.ended stayed W (goes-none-slice 𝓤 H A W 3 (0 ∷ []) tt (plain (λ _. u8)) yes, (goes-none-slice 𝓤 H A W 3 (1 ∷ []) tt (plain (λ _. u8)) yes, (goes-none 𝓤 H A W 3 (λ _. T.the-row) yes (λ κs x f. refl), tt))) (hand.clauses 𝓤 H A mem run) (WpFn 𝓤 H (𝓣 .C) (𝓣 .Λ) code.function) (WpFn-mono 𝓤 H (W .laws) 𝓣 code.function)
     (hand-walks 𝓤 H A W mem run (𝓣 .C) (𝓣 .Λ) (fmOf 𝓤 H (W .laws) 𝓣) known-one)
@@ -177,4 +177,4 @@ hand-spec 𝓤 H 𝓜 𝓖 𝓡 =
     entered 𝓤 H (tripleOf 𝓤 H (𝓖 .A) hand.signature (hand.spec 𝓤 H (𝓖 .A) (𝓜 .mem) (𝓡 .run)))
     (tables 𝓤 H 𝓜 𝓡 code.env .C) (tables 𝓤 H 𝓜 𝓡 code.env .Λ) #hand·hand code.function (code.unfolded 𝓤 H 𝓜 𝓡)
     (hand-meets 𝓤 H (𝓖 .A) (givenOf 𝓤 H 𝓜 𝓖) (𝓜 .mem) (𝓡 .run) (tablesOf 𝓤 H 𝓜 (tables 𝓤 H 𝓜 𝓡 code.env))
-    (cited 𝓤 H (One 𝓤 H (𝓖 .A) (𝓜 .mem) (𝓡 .run)) 𝓜 𝓡 code.env #hand·hand-one one-def.routine code.calls-hand·hand-one (one-thm.met 𝓤 H 𝓜 𝓖 𝓡)))
+    (cited 𝓤 H (One 𝓤 H (𝓖 .A) (𝓜 .mem) (𝓡 .run)) 𝓜 𝓡 code.env #hand·hand-in-one-lifetime one-def.routine code.calls-hand·hand-in-one-lifetime (one-thm.met 𝓤 H 𝓜 𝓖 𝓡)))

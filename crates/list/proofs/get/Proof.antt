@@ -5,7 +5,7 @@ use mathlib.Core.Path.{sym}
 use lib.ListN.{length}
 use borrow.Author.Needs.{needs}
 use Rattle.rules.specs.Spans.{spanOf}
-use Rattle.rules.specs.Lexing.{placesOf, lexemesIn}
+use Rattle.rules.specs.Lent.{placesOf, lexemesIn}
 use Rattle.list.proofs.Entries.{places-length, first-past, lexeme-at}
 use Rattle.list.proofs.get.Statement.{statement}
 use Rattle.list.proofs.get.Tie as tie

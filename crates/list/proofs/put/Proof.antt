@@ -7,7 +7,7 @@ use lib.Dec.{ltb}
 use lib.ListN.{length-set}
 use borrow.Author.Tests.{lt-ltb, le-ltb}
 use borrow.Author.Needs.{needs}
-use Rattle.rules.specs.Lexing.{placesOf}
+use Rattle.rules.specs.Lent.{placesOf}
 use Rattle.rules.proofs.Spans.{low-of-span, high-of-span}
 use Rattle.list.proofs.put.Statement.{statement}
 use Rattle.list.proofs.put.Tie as tie

@@ -27,11 +27,11 @@ shared-slice-read-b c = omega arith
 ends-inner-requires : tie.Need-ends-inner-requires Inv-loop μ-loop
 ends-inner-requires c κs = omega arith
 
-place-if-requires : tie.Need-place-if-requires Inv-loop μ-loop
-place-if-requires c κs = omega arith
+pick-requires : tie.Need-pick-requires Inv-loop μ-loop
+pick-requires c κs = omega arith
 
-least-requires : tie.Need-least-requires Inv-loop μ-loop
-least-requires c κs = omega arith
+smaller-requires : tie.Need-smaller-requires Inv-loop μ-loop
+smaller-requires c κs = omega arith
 
 add-j : tie.Need-add-j Inv-loop μ-loop
 add-j c = omega arith
@@ -42,7 +42,7 @@ loop-less c = omega arith
 loop-again : tie.Need-loop-again Inv-loop μ-loop
 loop-again c = (
   omega arith,
-  rw (c .least .ensures, c .before .place-if .ensures) (least-more (c .before .before .ends-inner .result) (omega arith) (omega arith) (c .before .before .ends-inner .ensures) (c .before .before .before .before .before .loop .inv .1)),
+  rw (c .smaller .ensures, c .before .pick .ensures) (least-more (c .before .before .ends-inner .result) (omega arith) (omega arith) (c .before .before .ends-inner .ensures) (c .before .before .before .before .before .loop .inv .1)),
 )
 
 cast-result : tie.Need-cast-result Inv-loop μ-loop
@@ -62,8 +62,8 @@ inner-first-spec =
     add-b
     shared-slice-read-b
     ends-inner-requires
-    place-if-requires
-    least-requires
+    pick-requires
+    smaller-requires
     add-j
     loop-less
     loop-again

@@ -29,11 +29,11 @@ add-b c = omega arith
 shared-slice-read-b : tie.Need-shared-slice-read-b Inv-loop μ-loop
 shared-slice-read-b c = omega arith
 
-place-if-requires : tie.Need-place-if-requires Inv-loop μ-loop
-place-if-requires c κs = omega arith
+pick-requires : tie.Need-pick-requires Inv-loop μ-loop
+pick-requires c κs = omega arith
 
-least-requires : tie.Need-least-requires Inv-loop μ-loop
-least-requires c κs = omega arith
+smaller-requires : tie.Need-smaller-requires Inv-loop μ-loop
+smaller-requires c κs = omega arith
 
 add-j : tie.Need-add-j Inv-loop μ-loop
 add-j c = omega arith
@@ -45,8 +45,8 @@ loop-again : tie.Need-loop-again Inv-loop μ-loop
 unfolding isNotLF
 loop-again c =
     let byte : ℕ = getD (now (c .before .before .before .before .before .before .args .text)) (c .before .before .before .before .before .before .args .at + c .before .before .before .before .loop .j) 0 in
-    let here : c .before .place-if .result ≡ cond (is "\n" byte) (c .before .before .before .before .loop .j) 64 = c .before .place-if .ensures in
-    (omega arith, rw (c .least .ensures, here) (least-more (is "\n" byte) (omega arith) (omega arith) refl (c .before .before .before .before .loop .inv .1)))
+    let here : c .before .pick .result ≡ cond (is "\n" byte) (c .before .before .before .before .loop .j) 64 = c .before .pick .ensures in
+    (omega arith, rw (c .smaller .ensures, here) (least-more (is "\n" byte) (omega arith) (omega arith) refl (c .before .before .before .before .loop .inv .1)))
 
 cast-result : tie.Need-cast-result Inv-loop μ-loop
 cast-result c = omega arith
@@ -64,8 +64,8 @@ line-first-spec =
     cast-b
     add-b
     shared-slice-read-b
-    place-if-requires
-    least-requires
+    pick-requires
+    smaller-requires
     add-j
     loop-less
     loop-again

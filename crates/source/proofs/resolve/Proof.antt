@@ -6,7 +6,9 @@ use native.Mathlib.Omega.{arith}
 use borrow.Author.Tests.{lt-ltb, le-ltb, lt-leb, le-leb}
 use lib.ListN.{length}
 use Rattle.rules.specs.Refusals.{BadSpan, WrongForm}
-use Rattle.rules.specs.Spans.{spanOf, nowhere, bytesAt, given, refuse, resolved}
+use Rattle.rules.specs.Spans.{spanOf, nowhere, bytesAt}
+use Rattle.rules.specs.Answers.{given, refuse}
+use Rattle.rules.specs.Source.{resolved}
 use Rattle.rules.proofs.Spans.{bad-of-words}
 use borrow.Author.Needs.{needs}
 use Rattle.source.proofs.resolve.Statement.{statement}

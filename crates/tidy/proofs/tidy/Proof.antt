@@ -1,9 +1,9 @@
 -- A refused lexing is the whole result; after an accepted one, what was listed is read back and written.
 use mathlib.Core.Path.{_≡_, refl}
 use denote.Ref.{now}
-use Rattle.rules.specs.Spans.{Refusal, accepted, refused}
-use Rattle.source.specs.Meaning.{refusalMeant}
-use Rattle.lexer.specs.Results.{answerMeant, lexedMeant}
+use Rattle.rules.specs.Answers.{Refusal, accepted, refused}
+use Rattle.source.specs.Meaning.{refusalMeant, verdictMeant}
+use Rattle.lexer.specs.Results.{lexedMeant}
 use Rattle.tidy.proofs.Whole.{tidies-refused, tidies-written}
 use borrow.Author.Needs.{needs}
 use Rattle.tidy.proofs.tidy.Statement.{statement}
@@ -63,7 +63,7 @@ returns-2 c =
     let lex = c .before .before .before .before .before .before .before .before .before .before .before .before .before .before .before .before .before .lex in
     let writing = c .before .before .before .write-lexemes in
     let verdict : lexedMeant (lex .result) .verdict ≡ accepted = rw (c .before .before .before .before .before .before .before .enum-told .given .1) refl in
-    rw (c .answered .ensures) (tidies-written (answerMeant (writing .result .answer)) (writing .result .bytes) (lex .ensures) verdict (writing .ensures))
+    rw (c .answered .ensures) (tidies-written (verdictMeant (writing .result .answer)) (writing .result .bytes) (lex .ensures) verdict (writing .ensures))
 
 pub tidy-spec : {M : Type 1} → statement M
 tidy-spec =

@@ -8,14 +8,15 @@ use lib.ListN.{length, take, drop, length-append}
 use borrow.Author.Needs.{needs}
 use borrow.Author.Tests.{not-true, not-false}
 use denote.Ref.{now}
-use Rattle.rules.specs.Spans.{limit, resolved}
-use Rattle.rules.specs.Lexing.{Lexeme, lexemesIn}
+use Rattle.rules.specs.Spans.{limit}
+use Rattle.rules.specs.Source.{resolved}
+use Rattle.rules.specs.Lent.{Lexeme, lexemesIn}
 use Rattle.rules.specs.Tidy.{gap}
 use Rattle.source.specs.Meaning.{partOf}
 use Rattle.list.specs.Entries.{entryMeant}
 use Rattle.output.specs.Places.{Put}
 use Rattle.output.proofs.Overwritten.{put-false}
-use Rattle.tidy.specs.Gaps.{gapMeant}
+use Rattle.gap.specs.Gaps.{gapMeant}
 use Rattle.list.proofs.Entries.{from-place}
 use Rattle.tidy.proofs.Written.{pieceOf, Writing, writing-start, writing-length, put-limit, writing-on, writing-stop, writing-end}
 use Rattle.tidy.proofs.write_lexemes.Statement.{statement}

@@ -1,4 +1,4 @@
--- Each arm knows its code, and that is the code of the token that it returns; a code below 60 that is none of 0 to 58 is 59.
+-- Each arm knows its code, and that is the code of the token that it returns; a code of a kind that is none of 0 to 58 is 59.
 use Prim.Native.Nat.{ℕ, zero, suc, _≤_}
 use mathlib.Core.Path.{_≡_, sym}
 use native.Mathlib.Omega.{arith}

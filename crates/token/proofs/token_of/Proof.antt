@@ -1,4 +1,4 @@
--- A code below 60 is a kind's, and has the token that `token_by` returns.
+-- A code up to that of Pipe is a kind's, and has the token that `token_by` returns.
 use native.Mathlib.Omega.{arith}
 use borrow.Author.Needs.{needs}
 use borrow.Author.Tests.{le-leb, lt-leb}

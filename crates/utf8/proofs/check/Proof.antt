@@ -5,7 +5,7 @@ use mathlib.Core.Option.{some}
 use native.Mathlib.Omega.{arith}
 use borrow.Author.Needs.{needs}
 use lib.ListN.{length}
-use Rattle.rules.specs.Spans.{notUtf8At}
+use Rattle.rules.specs.Source.{notUtf8At}
 use Rattle.utf8.specs.Ahead.{Ahead}
 use Rattle.utf8.proofs.Ahead.{stay, join, bad-answer, good-answer}
 use Rattle.utf8.proofs.check.Statement.{statement}

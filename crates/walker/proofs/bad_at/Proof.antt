@@ -1,7 +1,8 @@
 -- The span is made, or refused, as `newSpan` says (`bad-made`, `bad-refused`).
 use mathlib.Core.Path.{sym, ap, _∙_}
 use Rattle.rules.specs.Refusals.{WrongForm}
-use Rattle.rules.specs.Spans.{Span, refusal}
+use Rattle.rules.specs.Spans.{Span}
+use Rattle.rules.specs.Answers.{refusal}
 use Rattle.source.specs.Meaning.{spannedMeant}
 use Rattle.walker.proofs.Keeping.{bad-made, bad-refused}
 use borrow.Author.Needs.{needs}

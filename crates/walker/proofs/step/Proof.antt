@@ -44,6 +44,7 @@ use denote.Triple.Table.{entered, cited}
 use denote.Triple.Walked.{says, Stays, stay-none, gave-slice, walkOf, goes-none, goes-gave-slice, Walks, ends-at, walked, walk-meets}
 use denote.Exit.{yes}
 use denote.Triple.Clauses.{ensured, lasts}
+use Rattle.rules.specs.Lent.{arrays}
 use Rattle.lexer.specs.Stepping.{walkerAt, Walks as StepWalks}
 use Rattle.walker.specs.Meaning.{keptMeant}
 use Rattle.walker.specs.declared.Walker.{Walker}
@@ -162,7 +163,7 @@ module _ {M : Type 1} (𝓤 : URA M) (H : Heap 𝓤) (A : Atoms 𝓤) (W : Given
 
   -- what the callee ensures, of its result and of the last lists
   abbrev Said : Stepped → List ℕ → List ℕ → Type 0
-  Said r xs ys = StepWalks (now (d .text)) (walkerAt (d .doc) (d .position) (d .depth) (keptMeant (d .kept))) (now ks) (now ss) r xs ys
+  Said r xs ys = StepWalks (now (d .text)) (walkerAt (d .doc) (d .position) (d .depth) (keptMeant (d .kept))) (arrays (now ks) (now ss)) r (arrays xs ys)
 
   abbrev Lasts : Type 0
   Lasts = Unit {0} × (Unit {0} × (Unit {0} × (Unit {0} × (Unit {0} × (List ℕ × (List ℕ × Unit {0}))))))

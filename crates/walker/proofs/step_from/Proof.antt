@@ -41,6 +41,7 @@ use denote.Triple.Table.{entered, cited}
 use denote.Triple.Walked.{says, Stays, stay-none, stay-none-slice, gave-slice, walkOf, goes-none, goes-none-slice, goes-gave-slice, Walks, ends-at, walked, walk-meets}
 use denote.Exit.{yes}
 use denote.Triple.Clauses.{ensured, lasts}
+use Rattle.rules.specs.Lent.{arrays}
 use Rattle.walker.specs.Walkers.{steppedOf, Steps}
 use Rattle.walker.specs.declared.Kept.{Kept}
 use Rattle.walker.specs.declared.Walker.{Walker}
@@ -145,7 +146,7 @@ module _ {M : Type 1} (𝓤 : URA M) (H : Heap 𝓤) (A : Atoms 𝓤) (W : Given
 
   -- what the callee ensures, of its result and of the last lists
   abbrev Said : Walked → List ℕ → List ℕ → Type 0
-  Said r xs ys = Steps w (now ks) (now ss) r xs ys
+  Said r xs ys = Steps w (arrays (now ks) (now ss)) r (arrays xs ys)
 
   abbrev Lasts : Type 0
   Lasts = Unit {0} × (List ℕ × (List ℕ × Unit {0}))

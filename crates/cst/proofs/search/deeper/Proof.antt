@@ -23,26 +23,26 @@ one-passes false true e = refl
 one-passes false false e = sym e
 
 returns : tie.Need-returns
-returns c = c .passes-with .ensures ∙ rw (add-one, ← c .before .before .is-opener .ensures, c .before .if1 .taken)
+returns c = c .passes-with .ensures ∙ rw (add-one, ← c .before .before .opens-string-or-hole .ensures, c .before .if1 .taken)
 
 returns-2 : tie.Need-returns-2
 returns-2 c =
     let k = c .before .before .before .before .args .entry .kind in
     let other = neither (eqb k 9) (eqb k 15) (c .before .if2 .taken) in
-    c .passes-with2 .ensures ∙ rw (← c .before .before .before .is-opener .ensures, c .before .before .if1 .left, other)
+    c .passes-with2 .ensures ∙ rw (← c .before .before .before .opens-string-or-hole .ensures, c .before .before .if1 .left, other)
 
 returns-3 : tie.Need-returns-3
 returns-3 c =
     let k = c .before .before .before .before .before .args .entry .kind in
     let closer = one-passes (eqb k 9) (eqb k 15) (c .before .before .if2 .left) in
-    c .hole-ends .ensures ∙ rw (← c .before .before .before .before .is-opener .ensures, c .before .before .before .if1 .left, closer, eq-eqb _ 2 (c .before .if3 .taken))
+    c .hole-ends .ensures ∙ rw (← c .before .before .before .before .opens-string-or-hole .ensures, c .before .before .before .if1 .left, closer, eq-eqb _ 2 (c .before .if3 .taken))
 
 returns-4 : tie.Need-returns-4
 returns-4 c =
     let k = c .before .before .before .before .before .args .entry .kind in
     let closer = one-passes (eqb k 9) (eqb k 15) (c .before .before .if2 .left) in
     let less : c .before .before .before .before .before .args .opened .depth - 1 ≡ pred (c .before .before .before .before .before .args .opened .depth) = omega arith in
-    c .passes-with3 .ensures ∙ rw (← less, ← c .before .before .before .before .is-opener .ensures, c .before .before .before .if1 .left, closer, ne-eqb _ 2 (c .before .if3 .left))
+    c .passes-with3 .ensures ∙ rw (← less, ← c .before .before .before .before .opens-string-or-hole .ensures, c .before .before .before .if1 .left, closer, ne-eqb _ 2 (c .before .if3 .left))
 
 pub deeper-spec : {M : Type 1} → statement M
 deeper-spec =

@@ -5,9 +5,9 @@ use native.Mathlib.Numerals.{add-one}
 use mathlib.Core.Path.{_≡_, sym, ap, _∙_}
 use borrow.Author.Needs.{needs}
 use lib.ListN.{take}
-use Rattle.rules.specs.Lexing.{placesOf, lexemesIn}
+use Rattle.rules.specs.Lent.{placesOf, lexemesIn}
 use Rattle.source.specs.Meaning.{spanMeant}
-use Rattle.cst.specs.Search.{turnMeant}
+use Rattle.cst.specs.Search.{effectMeant}
 use Rattle.cst.proofs.Standing.{Stands, stands-start, same-kinds, same-words, has-room, stands-on, stands-ended, stands-stopped, next-in, end-length}
 use Rattle.cst.proofs.search.search.Statement.{statement}
 use Rattle.cst.proofs.search.search.Tie as tie
@@ -31,7 +31,7 @@ next-requires c κs =
 write-requires : tie.Need-write-requires Inv-loop μ-loop
 write-requires c κs =
     let st = c .before .before .before .before .before .before .before .before .loop .inv .0 in
-    let does = sym (c .before .before .before .before .before .next .ensures) ∙ ap turnMeant (c .before .before .before .turn .given .1) in
+    let does = sym (c .before .before .before .before .before .next .ensures) ∙ ap effectMeant (c .before .before .before .turn .given .1) in
     has-room st _ _ (rw (c .before .before .before .before .before .before .before .before .loop .inv .1) at does)
 
 parts-after-requires : tie.Need-parts-after-requires Inv-loop μ-loop
@@ -47,7 +47,7 @@ loop-again : tie.Need-loop-again Inv-loop μ-loop
 loop-again c =
     let st = c .before .before .before .before .before .before .before .before .before .before .before .before .before .before .before .loop .inv .0 in
     let a = c .before .before .before .before .before .before .before .before .before .before .before .before .before .before .before .before .before .before .before .before .before .before .before .before .args in
-    let does = sym (c .before .before .before .before .before .before .before .before .before .before .before .before .next .ensures) ∙ ap turnMeant (c .before .before .before .before .before .before .before .before .before .before .turn .given .1) in
+    let does = sym (c .before .before .before .before .before .before .before .before .before .before .before .before .next .ensures) ∙ ap effectMeant (c .before .before .before .before .before .before .before .before .before .before .turn .given .1) in
     let here = next-in (a .kinds .now) (a .words .now) (a .end) (c .before .before .before .before .before .before .before .before .before .before .before .before .before .before .before .loop .place) (c .before .before .before .before .before .before .before .before .before .before .before .before .before .before .before .before .before .before .before .before .before .before .before .before .pre .inside) (omega (arith, c .before .before .before .before .before .before .before .before .before .before .before .before .before .before .if1 .left)) _ (c .before .before .before .before .before .before .before .before .before .before .before .before .before .get .ensures) in
     (rw (add-one, c .parts-after .ensures) (stands-on st _ here (c .before .before .before .before .before .before .before .before .before .before .turn .given .0 .0) (rw (c .before .before .before .before .before .before .before .before .before .before .before .before .before .before .before .loop .inv .1) at does) _ _ (c .before .before .before .before .before .before .write .ensures) _ (c .before .open-after .ensures)), c .before .before .before .before .before .before .before .before .before .before .before .before .before .before .before .loop .inv .1)
 
@@ -74,7 +74,7 @@ returns-2 : tie.Need-returns-2 Inv-loop μ-loop
 returns-2 c =
     let st = c .before .before .before .before .before .before .loop .inv .0 in
     let a = c .before .before .before .before .before .before .before .before .before .before .before .before .before .before .before .args in
-    let does = sym (c .before .before .before .next .ensures) ∙ ap turnMeant (c .before .enum-told .given .1) in
+    let does = sym (c .before .before .before .next .ensures) ∙ ap effectMeant (c .before .enum-told .given .1) in
     let here = next-in (a .kinds .now) (a .words .now) (a .end) (c .before .before .before .before .before .before .loop .place) (c .before .before .before .before .before .before .before .before .before .before .before .before .before .before .before .pre .inside) (omega (arith, c .before .before .before .before .before .if1 .left)) _ (c .before .before .before .before .get .ensures) in
     rw (c .stopped .ensures, c .before .enum-told .given .1) (stands-stopped st _ here (c .before .enum-told .given .0 .0) (rw (c .before .before .before .before .before .before .loop .inv .1) at does))
 

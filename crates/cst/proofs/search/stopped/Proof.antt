@@ -2,14 +2,14 @@
 use mathlib.Core.Path.{_≡_, refl, ap}
 use Prim.Native.Nat.{ℕ}
 use borrow.Author.Needs.{needs}
-use Rattle.rules.specs.Spans.{given, refused}
-use Rattle.cst.specs.declared.Move.{Move}
-use Rattle.cst.specs.declared.Move.the-variants.{Passes, Yields}
-use Rattle.cst.specs.Search.{moveMeant, answerAt}
+use Rattle.rules.specs.Answers.{given, refused}
+use Rattle.cst.specs.declared.Progress.{Progress}
+use Rattle.cst.specs.declared.Progress.the-variants.{Passes, Yields}
+use Rattle.cst.specs.Search.{progressMeant, answerAt}
 use Rattle.cst.proofs.search.stopped.Statement.{statement}
 use Rattle.cst.proofs.search.stopped.Tie as tie
 
-goes : (place : ℕ) (m : Move) → given place ≡ answerAt place (moveMeant m)
+goes : (place : ℕ) (m : Progress) → given place ≡ answerAt place (progressMeant m)
 goes place (Passes o) = refl
 goes place (Yields p) = refl
 

@@ -1,10 +1,11 @@
--- The two checks before the first step are laws of `Loop`; then `run` from the text's start to its end tells what a whole call needs (`Runs .whole`).
+-- The two checks before the first step are laws of `Loop`; then `run` from the text's start to its end says what a whole call needs (`whole-of`).
 use mathlib.Core.Path.{refl, sym, ap, _∙_}
 use native.Mathlib.Omega.{arith}
 use Rattle.utf8.specs.Meaning.{checkedMeant}
 use Rattle.lexer.specs.Results.{haltedWith}
 use Rattle.lexer.proofs.Loop.{can-stop-first, bad-inside, long-out, bad-out}
 use Rattle.lexer.proofs.Opening.{nothing-open}
+use Rattle.lexer.proofs.Whole.{whole-of}
 use borrow.Author.Needs.{needs}
 use Rattle.lexer.proofs.lexing.lex.Statement.{statement}
 use Rattle.lexer.proofs.lexing.lex.Tie as tie
@@ -37,7 +38,7 @@ enum-told : tie.Need-enum-told
 enum-told c = search needs
 
 run-requires : tie.Need-run-requires
-run-requires c κs = (record { small = omega (arith, c .before .before .before .before .before .before .before .if1 .left); before = omega arith; inside = omega arith; stack = omega arith; deepest = omega arith; steps = omega arith; dropped = omega arith }, nothing-open (c .before .before .before .before .before .before .before .before .before .before .before .before .before .args .skinds .now))
+run-requires c κs = record { small = omega (arith, c .before .before .before .before .before .before .before .if1 .left); before = omega arith; inside = omega arith; stack = omega arith; deepest = omega arith; steps = omega arith; dropped = omega arith; going = refl; innermost = nothing-open (c .before .before .before .before .before .before .before .before .before .before .before .before .before .args .skinds .now) }
 
 enum-known-ran : tie.Need-enum-known-ran
 enum-known-ran c = search needs
@@ -48,7 +49,7 @@ enum-told-2 c = search needs
 halted-requires : tie.Need-halted-requires
 halted-requires c κs =
     let good = sym (c .before .before .before .before .before .before .before .before .before .before .before .before .before .before .before .before .before .before .check .ensures .0) ∙ ap checkedMeant (c .before .before .before .before .before .before .before .before .before .before .before .before .before .before .before .before .enum-told .given .1) in
-    let whole = rw (c .before .enum-told2 .given .1) at (c .before .before .before .before .before .before .before .before .before .before .before .run .ensures .whole refl refl good) in
+    let whole = rw (c .before .enum-told2 .given .1) at (whole-of _ _ _ _ _ _ _ _ _ _ (omega (arith, c .before .before .before .before .before .before .before .before .before .before .before .before .before .before .before .before .before .before .before .before .before .before .before .before .before .good .0)) (omega (arith, c .before .before .before .before .before .before .before .before .before .before .before .before .before .before .before .before .before .before .before .if1 .left)) good (c .before .before .before .before .before .before .before .before .before .before .before .run .ensures)) in
     rw (c .before .enum-told2 .given .1) (whole .stops)
 
 same-length-3 : tie.Need-same-length-3
@@ -67,13 +68,13 @@ returns-3 : tie.Need-returns-3
 unfolding haltedWith
 returns-3 c =
     let good = sym (c .before .before .before .before .before .before .before .before .before .before .before .before .before .before .before .before .before .before .before .check .ensures .0) ∙ ap checkedMeant (c .before .before .before .before .before .before .before .before .before .before .before .before .before .before .before .before .before .enum-told .given .1) in
-    let whole = rw (c .before .before .enum-told2 .given .1) at (c .before .before .before .before .before .before .before .before .before .before .before .before .run .ensures .whole refl refl good) in
+    let whole = rw (c .before .before .enum-told2 .given .1) at (whole-of _ _ _ _ _ _ _ _ _ _ (omega (arith, c .before .before .before .before .before .before .before .before .before .before .before .before .before .before .before .before .before .before .before .before .before .before .before .before .before .before .good .0)) (omega (arith, c .before .before .before .before .before .before .before .before .before .before .before .before .before .before .before .before .before .before .before .before .if1 .left)) good (c .before .before .before .before .before .before .before .before .before .before .before .before .run .ensures)) in
     whole .refused (c .halted .result) (rw (c .before .before .enum-told2 .given .1) at (c .halted .ensures))
 
 report-unclosed-delimiters-requires : tie.Need-report-unclosed-delimiters-requires
 report-unclosed-delimiters-requires c κs =
     let good = sym (c .before .before .before .before .before .before .before .before .before .before .before .before .before .before .before .before .before .before .before .before .check .ensures .0) ∙ ap checkedMeant (c .before .before .before .before .before .before .before .before .before .before .before .before .before .before .before .before .before .before .enum-told .given .1) in
-    let whole = rw (c .before .before .before .ran .given .1) at (c .before .before .before .before .before .before .before .before .before .before .before .before .before .run .ensures .whole refl refl good) in
+    let whole = rw (c .before .before .before .ran .given .1) at (whole-of _ _ _ _ _ _ _ _ _ _ (omega (arith, c .before .before .before .before .before .before .before .before .before .before .before .before .before .before .before .before .before .before .before .before .before .before .before .before .before .before .before .good .0)) (omega (arith, c .before .before .before .before .before .before .before .before .before .before .before .before .before .before .before .before .before .before .before .before .before .if1 .left)) good (c .before .before .before .before .before .before .before .before .before .before .before .before .before .run .ensures)) in
     whole .finishes
 
 same-length-7 : tie.Need-same-length-7
@@ -91,7 +92,7 @@ same-length-10 c = search needs
 returns-4 : tie.Need-returns-4
 returns-4 c =
     let good = sym (c .before .before .before .before .before .before .before .before .before .before .before .before .before .before .before .before .before .before .before .before .before .check .ensures .0) ∙ ap checkedMeant (c .before .before .before .before .before .before .before .before .before .before .before .before .before .before .before .before .before .before .before .enum-told .given .1) in
-    let whole = rw (c .before .before .before .before .ran .given .1) at (c .before .before .before .before .before .before .before .before .before .before .before .before .before .before .run .ensures .whole refl refl good) in
+    let whole = rw (c .before .before .before .before .ran .given .1) at (whole-of _ _ _ _ _ _ _ _ _ _ (omega (arith, c .before .before .before .before .before .before .before .before .before .before .before .before .before .before .before .before .before .before .before .before .before .before .before .before .before .before .before .before .good .0)) (omega (arith, c .before .before .before .before .before .before .before .before .before .before .before .before .before .before .before .before .before .before .before .before .before .before .if1 .left)) good (c .before .before .before .before .before .before .before .before .before .before .before .before .before .before .run .ensures)) in
     whole .ended (c .report-unclosed-delimiters .result) (c .report-unclosed-delimiters .ensures)
 
 pub lex-spec : {M : Type 1} → statement M

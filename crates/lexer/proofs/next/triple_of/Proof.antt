@@ -16,14 +16,14 @@ returns c = rw (c .enum-told .given .1)
 enum-known-state : tie.Need-enum-known-state
 enum-known-state c = search needs
 
-is-triple-requires : tie.Need-is-triple-requires
-is-triple-requires c κs = search needs
+is-triple-style-requires : tie.Need-is-triple-style-requires
+is-triple-style-requires c κs = search needs
 
 enum-known-state-2 : tie.Need-enum-known-state-2
 enum-known-state-2 c = search needs
 
-is-triple-requires-2 : tie.Need-is-triple-requires-2
-is-triple-requires-2 c κs = search needs
+is-triple-style-requires-2 : tie.Need-is-triple-style-requires-2
+is-triple-style-requires-2 c κs = search needs
 
 enum-told-2 : tie.Need-enum-told-2
 enum-told-2 c = search needs
@@ -39,11 +39,11 @@ enum-told-5 c = search needs
 
 returns-2 : tie.Need-returns-2
 unfolding stateCode
-returns-2 c = rw ((c .before .before .before .before .before .top .given .1), c .before .before .state .given .1) (c .is-triple .ensures .0)
+returns-2 c = rw ((c .before .before .before .before .before .top .given .1), c .before .before .state .given .1) (c .is-triple-style .ensures .0)
 
 returns-3 : tie.Need-returns-3
 unfolding stateCode
-returns-3 c = rw ((c .before .before .before .before .before .top .given .1), c .before .before .state2 .given .1) (c .is-triple2 .ensures .1)
+returns-3 c = rw ((c .before .before .before .before .before .top .given .1), c .before .before .state2 .given .1) (c .is-triple-style2 .ensures .1)
 
 returns-4 : tie.Need-returns-4
 unfolding stateCode
@@ -69,9 +69,9 @@ triple-of-spec =
     enum-told
     returns
     enum-known-state
-    is-triple-requires
+    is-triple-style-requires
     enum-known-state-2
-    is-triple-requires-2
+    is-triple-style-requires-2
     enum-told-2
     enum-told-3
     enum-told-4

@@ -2,7 +2,8 @@
 use native.Mathlib.Omega.{arith}
 use borrow.Author.Tests.{lt-ltb, le-ltb, lt-leb, le-leb}
 use lib.ListN.{length}
-use Rattle.rules.specs.Spans.{spanOf, resolved}
+use Rattle.rules.specs.Spans.{spanOf}
+use Rattle.rules.specs.Source.{resolved}
 use Rattle.rules.proofs.Spans.{bad-of-words}
 use borrow.Author.Needs.{needs}
 use Rattle.source.proofs.Span.inside.Statement.{statement}

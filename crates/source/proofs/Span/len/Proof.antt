@@ -1,7 +1,8 @@
 -- The span that two words name is bad only where its start is after its end (`bad-of-words`).
 use native.Mathlib.Omega.{arith}
 use borrow.Author.Tests.{lt-ltb, le-ltb}
-use Rattle.rules.specs.Spans.{spanOf, lenOf}
+use Rattle.rules.specs.Spans.{spanOf}
+use Rattle.rules.specs.Source.{lenOf}
 use Rattle.rules.proofs.Spans.{bad-of-words}
 use borrow.Author.Needs.{needs}
 use Rattle.source.proofs.Span.len.Statement.{statement}

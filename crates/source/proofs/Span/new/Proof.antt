@@ -2,7 +2,9 @@
 use mathlib.Core.Path.{ap}
 use native.Mathlib.Omega.{arith}
 use borrow.Author.Tests.{lt-ltb, le-ltb}
-use Rattle.rules.specs.Spans.{limit, given, newSpan}
+use Rattle.rules.specs.Spans.{limit}
+use Rattle.rules.specs.Answers.{given}
+use Rattle.rules.specs.Source.{newSpan}
 use Rattle.source.proofs.Span.new.Statement.{statement}
 use Rattle.source.proofs.Span.new.Tie as tie
 

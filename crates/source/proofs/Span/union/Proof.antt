@@ -2,7 +2,8 @@
 use mathlib.Core.Path.{ap, _∙_}
 use native.Mathlib.Omega.{arith}
 use borrow.Author.Tests.{not-true, not-false}
-use Rattle.rules.specs.Spans.{given, unionOf}
+use Rattle.rules.specs.Answers.{given}
+use Rattle.rules.specs.Source.{unionOf}
 use Rattle.rules.proofs.Spans.{same-span, start-within, end-within, unless-apart}
 use borrow.Author.Needs.{needs}
 use Rattle.source.proofs.Span.union.Statement.{statement}
@@ -33,8 +34,8 @@ end-requires c κs = search needs
 end-requires-2 : tie.Need-end-requires-2
 end-requires-2 c κs = search needs
 
-most-requires : tie.Need-most-requires
-most-requires c κs = search needs
+greater-requires : tie.Need-greater-requires
+greater-requires c κs = search needs
 
 pack-requires : tie.Need-pack-requires
 pack-requires c κs =
@@ -63,6 +64,6 @@ union-spec =
     least-requires
     end-requires
     end-requires-2
-    most-requires
+    greater-requires
     pack-requires
     returns-2)

@@ -2,7 +2,8 @@
 use mathlib.Core.Path.{_≡_}
 use native.Mathlib.Omega.{arith}
 use borrow.Author.Tests.{not-true, not-false}
-use Rattle.rules.specs.Spans.{spanOf, untilOf}
+use Rattle.rules.specs.Spans.{spanOf}
+use Rattle.rules.specs.Source.{untilOf}
 use Rattle.rules.proofs.Spans.{unless-apart}
 use borrow.Author.Needs.{needs}
 use Rattle.source.proofs.Span.until.Statement.{statement}

@@ -5,14 +5,15 @@ use mathlib.Core.Bool.{true, false}
 use borrow.Author.Tests.{lt-leb, le-leb}
 use lib.Dec.{leb}
 use lib.ListN.{length}
-use Rattle.rules.specs.Spans.{given, isBad}
+use Rattle.rules.specs.Spans.{isBad}
+use Rattle.rules.specs.Answers.{given}
 use Rattle.rules.specs.Kinds.{StringInner, HoleOpen, between}
-use Rattle.rules.specs.Lexing.{Lexeme}
+use Rattle.rules.specs.Lent.{Lexeme}
 use Rattle.rules.specs.Indent.{partVerdict}
 use Rattle.list.specs.Entries.{entryMeant}
-use Rattle.cst.specs.Meaning.{knownMeant}
+use Rattle.cst.specs.Meaning.{asPartMeant}
 use Rattle.string.specs.Meaning.{partChecked}
-use Rattle.string.proofs.Lines.{is-part-kind, is-part-same, no-part-kind}
+use Rattle.cst.proofs.Told.{part-kind, part-same, no-part-kind}
 use Rattle.string.proofs.leading.check.Statement.{statement}
 use Rattle.string.proofs.leading.check.Tie as tie
 use borrow.Author.Needs.{needs}
@@ -28,7 +29,7 @@ returns-2 c =
     let b = k .before .before in
     let e = entryMeant (b .before .before .before .args .entry) in
     let good : isBad (e .at) ≡ false = sym (b .is-bad .ensures) ∙ k .before .if1 .left in
-    let other : between StringInner HoleOpen (e .kind) ≡ false = no-part-kind e (ap knownMeant (sym (c .before .enum-told .given .1)) ∙ k .part .ensures) in
+    let other : between StringInner HoleOpen (e .kind) ≡ false = no-part-kind e (ap asPartMeant (sym (c .before .enum-told .given .1)) ∙ k .part .ensures) in
     rw (c .refuse2 .ensures, good, other)
 
 returns-3 : tie.Need-returns-3
@@ -39,7 +40,7 @@ returns-3 c =
     let a = b .before .before .before .args in
     let e = entryMeant (a .entry) in
     let good : isBad (e .at) ≡ false = sym (b .is-bad .ensures) ∙ k .before .if1 .left in
-    let part : between StringInner HoleOpen (e .kind) ≡ true = is-part-kind e _ (ap knownMeant (sym (c .before .before .before .before .known .given .1)) ∙ k .part .ensures) in
+    let part : between StringInner HoleOpen (e .kind) ≡ true = part-kind e _ (ap asPartMeant (sym (c .before .before .before .before .known .given .1)) ∙ k .part .ensures) in
     let outside : leb (e .at .end) (length (a .text .now)) ≡ false = lt-leb (e .at .end) (length (a .text .now)) (omega (arith, c .before .before .end .ensures, c .before .if2 .taken)) in
     rw (c .refuse3 .ensures, good, part, outside)
 
@@ -51,10 +52,10 @@ returns-4 c =
     let a = b .before .before .before .args in
     let e = entryMeant (a .entry) in
     let good : isBad (e .at) ≡ false = sym (b .is-bad .ensures) ∙ k .before .if1 .left in
-    let found = ap knownMeant (sym (c .before .before .before .known .given .1)) ∙ k .part .ensures in
-    let part : between StringInner HoleOpen (e .kind) ≡ true = is-part-kind e _ found in
+    let found = ap asPartMeant (sym (c .before .before .before .known .given .1)) ∙ k .part .ensures in
+    let part : between StringInner HoleOpen (e .kind) ≡ true = part-kind e _ found in
     let inside : leb (e .at .end) (length (a .text .now)) ≡ true = le-leb (e .at .end) (length (a .text .now)) (omega (arith, c .before .end .ensures, c .if2 .left)) in
-    rw (good, part, inside) (ap (λ (l : Lexeme). given l) (is-part-same e _ found))
+    rw (good, part, inside) (ap (λ (l : Lexeme). given l) (part-same e _ found))
 
 pub check-spec : {M : Type 1} → statement M
 check-spec =

@@ -5,8 +5,8 @@ use mathlib.Core.Path.{_≡_, sym, ap, _∙_}
 use mathlib.Core.List.{List}
 use lib.ListN.{length, take, drop, length-take, drop-of-length-le}
 use borrow.Author.Needs.{needs}
-use Rattle.rules.specs.Spans.{accepted}
-use Rattle.rules.specs.Lexing.{lexemesIn}
+use Rattle.rules.specs.Answers.{accepted}
+use Rattle.rules.specs.Lent.{lexemesIn, arrays}
 use Rattle.rules.specs.Indent.{partVerdict, stringNext, indentCall}
 use Rattle.list.specs.Entries.{entryMeant}
 use Rattle.string.specs.Meaning.{checkedMeant, orSpaces}
@@ -19,7 +19,7 @@ use Rattle.string.proofs.leading.count_common_leading_spaces.Tie as tie
 abbrev Inv-loop : tie.InvT-loop
 Inv-loop text kinds words count end i₀ n-spaces₀ i n-spaces =
     (i ≤ end) × (length (take end (lexemesIn kinds words)) ≡ end)
-    × (indentCall text kinds words count ≡ indentFrom text (fewestMeant n-spaces) (drop i (take end (lexemesIn kinds words))))
+    × (indentCall text (arrays kinds words) count ≡ indentFrom text (fewestMeant n-spaces) (drop i (take end (lexemesIn kinds words))))
 
 abbrev μ-loop : tie.MeasureT-loop
 μ-loop text kinds words count end i₀ n-spaces₀ i n-spaces = end - i

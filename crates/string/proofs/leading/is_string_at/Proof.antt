@@ -3,7 +3,7 @@ use Prim.Native.Nat.{_≤_, _<_}
 use native.Mathlib.Omega.{arith}
 use mathlib.Core.Path.{sym, ap, _∙_}
 use lib.ListN.{length, take, drop, length-take, drop-of-length-le}
-use Rattle.rules.specs.Lexing.{lexemesIn, Lexeme}
+use Rattle.rules.specs.Lent.{lexemesIn, Lexeme}
 use Rattle.rules.specs.Indent.{isStringPart}
 use Rattle.list.proofs.Entries.{first-taken}
 use Rattle.string.proofs.Lines.{next-first}

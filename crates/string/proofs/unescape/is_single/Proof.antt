@@ -3,7 +3,7 @@ use mathlib.Core.Path.{refl, sym, _∙_}
 use borrow.Author.Needs.{needs}
 use borrow.Author.Tests.{eq-eqb, ne-eqb}
 use denote.Ref.{now}
-use Rattle.string.proofs.Encoded.{single-form}
+use Rattle.string.proofs.Escapes.{single-form}
 use Rattle.string.proofs.unescape.is_single.Statement.{statement}
 use Rattle.string.proofs.unescape.is_single.Tie as tie
 

@@ -4,7 +4,7 @@ use mathlib.Core.Path.{refl, sym, _∙_}
 use borrow.Author.Needs.{needs}
 use borrow.Author.Tests.{eq-eqb, ne-eqb}
 use denote.Ref.{now}
-use Rattle.string.proofs.Encoded.{rest-whole, four-form}
+use Rattle.string.proofs.Escapes.{rest-whole, four-form}
 use Rattle.string.proofs.unescape.is_unicode4.Statement.{statement}
 use Rattle.string.proofs.unescape.is_unicode4.Tie as tie
 

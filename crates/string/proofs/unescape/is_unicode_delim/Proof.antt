@@ -7,7 +7,7 @@ use lib.ListN.{length}
 use borrow.Author.Needs.{needs}
 use borrow.Author.Tests.{eq-eqb, ne-eqb}
 use denote.Ref.{now}
-use Rattle.string.proofs.Encoded.{delim-form, delim-short}
+use Rattle.string.proofs.Escapes.{delim-form, delim-short}
 use Rattle.string.proofs.unescape.is_unicode_delim.Statement.{statement}
 use Rattle.string.proofs.unescape.is_unicode_delim.Tie as tie
 

@@ -8,7 +8,7 @@ use borrow.Author.Needs.{needs}
 use borrow.Author.Tests.{ne-eqb, not-true, not-false}
 use denote.Ref.{now}
 use Rattle.rules.specs.Escapes.{isSingle, isUnicode4, isUnicodeDelim, scalarOf}
-use Rattle.string.proofs.Encoded.{rest-whole, single-two, four-digits, delim-digits}
+use Rattle.string.proofs.Escapes.{rest-whole, single-two, four-digits, delim-digits}
 use Rattle.string.proofs.unescape.scalar_of.Statement.{statement}
 use Rattle.string.proofs.unescape.scalar_of.Tie as tie
 

@@ -7,7 +7,7 @@ use borrow.Author.Tests.{le-leb, lt-leb}
 use Rattle.rules.specs.Spans.{isBad}
 use Rattle.rules.specs.Escapes.{escapeScalar}
 use Rattle.source.specs.Meaning.{spanMeant}
-use Rattle.string.proofs.Encoded.{not-bad}
+use Rattle.string.proofs.Escapes.{not-bad}
 use Rattle.string.proofs.unescape.scalar_value.Statement.{statement}
 use Rattle.string.proofs.unescape.scalar_value.Tie as tie
 

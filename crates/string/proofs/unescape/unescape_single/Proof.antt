@@ -11,7 +11,7 @@ use lib.Dec.{leb}
 use Rattle.rules.specs.Bytes.{isCapital}
 use Rattle.rules.specs.Escapes.{singleScalar}
 use Rattle.source.specs.Meaning.{spanMeant}
-use Rattle.string.proofs.Encoded.{single-capital, single-unknown}
+use Rattle.string.proofs.Escapes.{single-capital, single-unknown}
 use Rattle.string.proofs.unescape.unescape_single.Statement.{statement}
 use Rattle.string.proofs.unescape.unescape_single.Tie as tie
 

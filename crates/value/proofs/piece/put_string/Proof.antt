@@ -7,7 +7,7 @@ use lib.ListN.{length, take, drop, length-drop}
 use lib.Seq.{take-all, length-take-le}
 use denote.Ref.{now}
 use Rattle.rules.specs.Value.{dedented}
-use Rattle.value.proofs.Dedenting.{taken-within, dedented-same, dedented-two}
+use Rattle.string.proofs.Dedenting.{taken-within, dedented-same, dedented-two}
 use borrow.Author.Needs.{needs}
 use Rattle.value.proofs.piece.put_string.Statement.{statement}
 use Rattle.value.proofs.piece.put_string.Tie as tie

@@ -11,7 +11,7 @@ use Rattle.token.specs.declared.Escape.{Escape}
 use Rattle.cst.specs.Meaning.{partMeant}
 use Rattle.cst.specs.declared.StringPart.{StringPart}
 use Rattle.cst.specs.declared.StringPart.the-variants.{Escape as Part}
-use Rattle.value.specs.Pieces.{Good}
+use Rattle.value.specs.Pieces.{PartAccepted}
 use Rattle.cst.proofs.Told.{escape-code}
 use Rattle.value.proofs.OnePart.{hole-written}
 use borrow.Author.Needs.{needs}
@@ -24,13 +24,13 @@ escape-kind p s e h k is = ap isEscape is ∙ escape-code e
 write-string-requires : tie.Need-write-string-requires
 write-string-requires c κs =
     let s = c .before .before .before .before .before .before in
-    subst (λ (p : StringPart). Good (now (s .args .text)) (partMeant p)) (c .before .before .part .given .1) (s .pre)
+    subst (λ (p : StringPart). PartAccepted (now (s .args .text)) (partMeant p)) (c .before .before .part .given .1) (s .pre)
 
 write-escape-requires : tie.Need-write-escape-requires
 write-escape-requires c κs =
     let s = c .before .before .before in
     let t = s .before .before .before .before in
-    (rw (c .before .escape-code .ensures) (subst (λ (p : StringPart). Good (now (t .args .text)) (partMeant p)) (s .part2 .given .1) (t .pre)), escape-kind _ _ _ (s .part2 .given .1) _ (c .before .escape-code .ensures))
+    (rw (c .before .escape-code .ensures) (subst (λ (p : StringPart). PartAccepted (now (t .args .text)) (partMeant p)) (s .part2 .given .1) (t .pre)), escape-kind _ _ _ (s .part2 .given .1) _ (c .before .escape-code .ensures))
 
 returns : tie.Need-returns
 returns c = rw (c .before .before .before .before .before .part .given .1) (c .before .before .write-string .ensures)

@@ -6,7 +6,7 @@ use borrow.Author.Tests.{not-true, not-false}
 use denote.Ref.{now}
 use Rattle.rules.specs.Spans.{bytesAt}
 use Rattle.rules.specs.Kinds.{StringInner}
-use Rattle.rules.specs.Lexing.{lexeme}
+use Rattle.rules.specs.Lent.{lexeme}
 use Rattle.source.specs.Meaning.{spanMeant, partOf}
 use Rattle.output.proofs.Overwritten.{end-limit}
 use Rattle.string.proofs.Lines.{checked-inside}
@@ -34,7 +34,7 @@ add-t12 c =
     let line : now (s .before .before .resolve .result) ≡ bytesAt text span = s .before .before .resolve .ensures .0 ∙ ap partOf (checked-inside text (lexeme StringInner span) (t .pre .inside)) in
     let whole : s .put-string .result ≡ true = not-false _ (c .before .if1 .left) in
     let put = string-put text (t .args .indent) span (t .args .position) (now (t .args .output)) (rw (line, whole) at (s .put-string .ensures)) in
-    omega (arith, put .0, rw line at (c .string-length .ensures), end-limit (now (t .args .output)))
+    omega (arith, put .0, rw line at (c .line-length .ensures), end-limit (now (t .args .output)))
 
 returns-2 : tie.Need-returns-2
 returns-2 c =
@@ -45,7 +45,7 @@ returns-2 c =
     let line : now (s .before .before .resolve .result) ≡ bytesAt text span = s .before .before .resolve .ensures .0 ∙ ap partOf (checked-inside text (lexeme StringInner span) (t .pre .inside)) in
     let whole : s .put-string .result ≡ true = not-false _ (c .before .if1 .left) in
     let put = string-put text (t .args .indent) span (t .args .position) (now (t .args .output)) (rw (line, whole) at (s .put-string .ensures)) in
-    rw (c .string-length .ensures, line) (put .1)
+    rw (c .line-length .ensures, line) (put .1)
 
 pub write-string-spec : {M : Type 1} → statement M
 write-string-spec =

@@ -4,11 +4,11 @@ use Prim.Native.Nat.{_-_, _≤_, _<_}
 use mathlib.Core.Path.{_≡_, refl, sym, ap, _∙_}
 use lib.ListN.{length, take, drop}
 use denote.Ref.{now}
-use Rattle.rules.specs.Lexing.{lexemesIn}
-use Rattle.rules.specs.Indent.{firstRefusal}
+use Rattle.rules.specs.Answers.{firstRefusal}
+use Rattle.rules.specs.Lent.{lexemesIn}
 use Rattle.rules.specs.Value.{escapeVerdict}
 use Rattle.list.specs.Entries.{firstOf}
-use Rattle.value.specs.Meaning.{verdictMeant}
+use Rattle.source.specs.Meaning.{verdictMeant}
 use Rattle.value.proofs.Refusing.{first-listed, first-on, first-stop, first-end}
 use borrow.Author.Needs.{needs}
 use Rattle.value.proofs.pieces.check_escapes.Statement.{statement}

@@ -4,12 +4,12 @@ use Prim.Native.Nat.{_-_, _≤_, _<_}
 use mathlib.Core.Path.{_≡_, sym, ap, _∙_}
 use lib.ListN.{length, take, drop}
 use denote.Ref.{now}
-use Rattle.rules.specs.Lexing.{lexemesIn}
+use Rattle.rules.specs.Lent.{lexemesIn}
 use Rattle.list.specs.Entries.{entryMeant, firstOf}
-use Rattle.cst.specs.Meaning.{knownMeant}
-use Rattle.string.proofs.Lines.{is-part-same}
+use Rattle.cst.specs.Meaning.{asPartMeant}
+use Rattle.cst.proofs.Told.{part-same}
 use Rattle.value.specs.Meaning.{reachedMeant}
-use Rattle.value.specs.Pieces.{Good}
+use Rattle.value.specs.Pieces.{PartAccepted}
 use Rattle.value.proofs.Refusing.{first-listed}
 use Rattle.value.proofs.OnePart.{all-good, good-some, good-known}
 use Rattle.value.proofs.Chunks.{Writing, writing-start, writing-on, writing-stop, writing-end, writing-past}
@@ -45,8 +45,8 @@ returns c =
     let i = s .before .before .loop .i in
     let there : i < length ls = omega (arith, s .before .loop-test .taken, t .end .ensures) in
     let here : entryMeant (s .get .result) ≡ firstOf (drop i ls) = s .get .ensures ∙ sym (first-listed (a .count) (lexemesIn (now (a .kinds)) (now (a .words))) i there) in
-    let good : Good text (entryMeant (s .get .result)) = rw here (all-good text ls i (u .pre) there) in
-    good-some text (entryMeant (s .get .result)) good (ap knownMeant (sym (c .enum-told .given .1)) ∙ c .before .before .part .ensures)
+    let good : PartAccepted text (entryMeant (s .get .result)) = rw here (all-good text ls i (u .pre) there) in
+    good-some text (entryMeant (s .get .result)) good (ap asPartMeant (sym (c .enum-told .given .1)) ∙ c .before .before .part .ensures)
 
 write-part-requires : tie.Need-write-part-requires Inv-loop μ-loop
 write-part-requires c κs =
@@ -60,8 +60,8 @@ write-part-requires c κs =
     let i = t .before .before .loop .i in
     let there : i < length ls = omega (arith, t .before .loop-test .taken, u .end .ensures) in
     let here : entryMeant (t .get .result) ≡ firstOf (drop i ls) = t .get .ensures ∙ sym (first-listed (a .count) (lexemesIn (now (a .kinds)) (now (a .words))) i there) in
-    let good : Good text (entryMeant (t .get .result)) = rw here (all-good text ls i (v .pre) there) in
-    let known = ap knownMeant (sym (c .before .before .known .given .1)) ∙ s .part .ensures in
+    let good : PartAccepted text (entryMeant (t .get .result)) = rw here (all-good text ls i (v .pre) there) in
+    let known = ap asPartMeant (sym (c .before .before .known .given .1)) ∙ s .part .ensures in
     good-known text (entryMeant (t .get .result)) _ good known
 
 returns-2 : tie.Need-returns-2 Inv-loop μ-loop
@@ -77,8 +77,8 @@ returns-2 c =
     let i = u .before .before .loop .i in
     let there : i < length ls = omega (arith, u .before .loop-test .taken, v .end .ensures) in
     let here : entryMeant (u .get .result) ≡ firstOf (drop i ls) = u .get .ensures ∙ sym (first-listed (a .count) (lexemesIn (now (a .kinds)) (now (a .words))) i there) in
-    let known = ap knownMeant (sym (t .known .given .1)) ∙ t .before .before .part .ensures in
-    let part = is-part-same (entryMeant (u .get .result)) _ known ∙ here in
+    let known = ap asPartMeant (sym (t .known .given .1)) ∙ t .before .before .part .ensures in
+    let part = part-same (entryMeant (u .get .result)) _ known ∙ here in
     let told = ap reachedMeant (c .enum-told2 .given .1) in
     rw told (writing-stop (u .before .before .loop .inv .1) _ there (rw (part, told) at (s .write-part .ensures)))
 
@@ -95,8 +95,8 @@ loop-again c =
     let i = u .before .before .loop .i in
     let there : i < length ls = omega (arith, u .before .loop-test .taken, v .end .ensures) in
     let here : entryMeant (u .get .result) ≡ firstOf (drop i ls) = u .get .ensures ∙ sym (first-listed (a .count) (lexemesIn (now (a .kinds)) (now (a .words))) i there) in
-    let known = ap knownMeant (sym (t .known .given .1)) ∙ t .before .before .part .ensures in
-    let part = is-part-same (entryMeant (u .get .result)) _ known ∙ here in
+    let known = ap asPartMeant (sym (t .known .given .1)) ∙ t .before .before .part .ensures in
+    let part = part-same (entryMeant (u .get .result)) _ known ∙ here in
     let told = ap reachedMeant (c .before .reached .given .1) in
     (omega (arith, u .before .loop-test .taken), writing-on (u .before .before .loop .inv .1) there (rw (part, told) at (s .write-part .ensures)))
 

@@ -2,11 +2,12 @@
 use mathlib.Core.Path.{_≡_, sym, ap, _∙_}
 use lib.ListN.{drop}
 use denote.Ref.{now}
-use Rattle.rules.specs.Lexing.{Lexeme, lexemesIn}
+use Rattle.rules.specs.Lent.{Lexeme, lexemesIn}
 use Rattle.list.specs.Entries.{firstOf}
 use Rattle.cst.specs.Meaning.{closerMeant}
 use Rattle.string.specs.Meaning.{indentedMeant}
-use Rattle.value.specs.Meaning.{verdictMeant, orNowhere}
+use Rattle.source.specs.Meaning.{verdictMeant}
+use Rattle.value.specs.Meaning.{orNowhere}
 use Rattle.value.proofs.Call.{good-parts, call-no-parts, call-no-indent, call-no-escapes, call-found}
 use borrow.Author.Needs.{needs}
 use Rattle.value.proofs.valuing.value.Statement.{statement}

@@ -3,9 +3,9 @@ use mathlib.Core.Path.{_≡_, sym, ap, _∙_}
 use mathlib.Core.Bool.{true, false}
 use lib.ListN.{take}
 use denote.Ref.{now}
-use Rattle.rules.specs.Spans.{given}
-use Rattle.rules.specs.Lexing.{Lexeme, lexemesIn}
-use Rattle.rules.specs.Value.{Where, isUnbroken, inText, textPart}
+use Rattle.rules.specs.Answers.{given}
+use Rattle.rules.specs.Lent.{Lexeme, lexemesIn}
+use Rattle.rules.specs.Value.{Held, isUnbroken, inText, textPart}
 use Rattle.list.specs.Entries.{entryMeant, firstOf}
 use Rattle.value.specs.Meaning.{answerMeant}
 use Rattle.value.proofs.Refusing.{first-listed}
@@ -26,7 +26,7 @@ returns c =
     let part = unbroken-part text (a .indent) ls one in
     let first : firstOf ls ≡ entryMeant (s .get .result) = first-listed (a .count) (lexemesIn (now (a .kinds)) (now (a .words))) 0 (part .0) ∙ sym (s .get .ensures) in
     let same : textPart ls ≡ inText (entryMeant (s .get .result) .at .start) (entryMeant (s .get .result) .at .end) = part .1 ∙ ap (λ (l : Lexeme). inText (l .at .start) (l .at .end)) first in
-    let answer : answerMeant (c .text-part .result) ≡ given (textPart ls) = c .text-part .ensures ∙ ap (λ (w : Where). given w) (sym same) in
+    let answer : answerMeant (c .text-part .result) ≡ given (textPart ls) = c .text-part .ensures ∙ ap (λ (w : Held). given w) (sym same) in
     rw answer (value-in-text text (a .indent) ls (a .position) out one)
 
 returns-2 : tie.Need-returns-2

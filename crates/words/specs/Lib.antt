@@ -1,0 +1,4 @@
+pub mod Refusals
+pub mod Lexing
+pub mod Strings
+pub mod Walking
