@@ -6,7 +6,7 @@
 mod raw;
 
 use raw::{rcl_lex, rcl_tidy, rcl_utf8, rcl_value, rcl_walker_open, rcl_walker_step};
-use raw::{Lexed, Stepped, Valued, Walker};
+use raw::{Lexed, Refusal, Stepped, Valued};
 
 pub fn is_utf8(text: &[u8]) -> bool {
     // The pointer and the length are those of a live slice.
@@ -75,7 +75,7 @@ impl Lent {
                 stack.words.len(),
             )
         };
-        assert_eq!(lexed.refused, 0, "The texts are accepted.");
+        assert_eq!(lexed.refusal.refused, 0, "The texts are accepted.");
         lexed
     }
 
@@ -99,7 +99,7 @@ impl Lent {
                 self.output.len(),
             )
         };
-        assert_eq!(tidied.lexed.refused, 0, "The output is large enough.");
+        assert_eq!(tidied.lexed.refusal.refused, 0, "The output is large enough.");
         tidied.written
     }
 
@@ -112,7 +112,7 @@ impl Lent {
                 continue;
             }
             let valued = self.value(text, place, position);
-            assert_eq!(valued.refused, 0, "Every string has a value.");
+            assert_eq!(valued.refusal.refused, 0, "Every string has a value.");
             if valued.in_output == 1 {
                 position = valued.end as usize;
             }
@@ -161,7 +161,7 @@ impl Lent {
         }
     }
 
-    fn step(&mut self, text: &[u8], opened: &Walker, position: usize, depth: usize) -> Stepped {
+    fn step(&mut self, text: &[u8], opened: &Refusal, position: usize, depth: usize) -> Stepped {
         let stack = &mut self.stack;
         unsafe {
             rcl_walker_step(

@@ -86,13 +86,23 @@ enum rcl_kind {
 #define RCL_SPAN_END(low, high) (((uint64_t)(low) >> 48) | (((uint64_t)(high) & (((uint64_t)1 << 32) - 1)) << 16))
 #define RCL_SPAN_DOC(high) ((uint64_t)(high) >> 32)
 
+/* A refusal, or none. */
+typedef struct rcl_refusal {
+    uint64_t refused;            /* 0: nothing is refused; 1: this is */
+    uint64_t number;             /* the refusal's number in document 01 */
+    uint64_t low, high;          /* its span */
+} rcl_refusal;
+
+/* A refusal's note, or none. */
+typedef struct rcl_note {
+    uint64_t noted;              /* 1 where there is a note (refusals 24 to 28) */
+    uint64_t low, high;          /* its span: the opener */
+} rcl_note;
+
 /* What lexing answers. */
 typedef struct rcl_lexed {
-    uint64_t refused;            /* 0: the text is accepted; 1: it is refused */
-    uint64_t number;             /* the refusal's number in document 01, 0 if there is none */
-    uint64_t low, high;          /* its span */
-    uint64_t noted;              /* 1 where there is a note (refusals 24 to 28) */
-    uint64_t note_low, note_high; /* the note's span: the opener */
+    rcl_refusal refusal;         /* none: the text is accepted */
+    rcl_note note;
     uint64_t lexemes;            /* steps not refused that are no Space (RCL_SPACE) */
     uint64_t steps;              /* all steps not refused */
     uint64_t kept, dropped;      /* the bytes of lexemes and of Spaces */
@@ -115,10 +125,8 @@ bool rcl_is_keyword(const uint8_t *bytes, uintptr_t len);
 
 /* A number, or a refusal. A refusal of this and of the next two structs has no note. */
 typedef struct rcl_answer {
-    uint64_t refused;            /* 0: `count` is the answer; 1: refused */
-    uint64_t number;             /* the refusal's number */
-    uint64_t low, high;          /* its span */
-    uint64_t count;
+    rcl_refusal refusal;
+    uint64_t count;              /* the answer where there is no refusal */
 } rcl_answer;
 
 /* The scalar value of the escape sequence of kind `kind` (11 to 13, RCL_ESCAPE_SINGLE to RCL_ESCAPE_UNICODE_DELIM) at the span `low`, `high` of the text.
@@ -137,7 +145,7 @@ rcl_answer rcl_count_common_leading_spaces(const uint8_t *text, uintptr_t len,
 
 /* The parts of a string. */
 typedef struct rcl_parted {
-    uint64_t refused, number, low, high;
+    rcl_refusal refusal;
     uint64_t closer;             /* the closing quote's place in the list */
     uint64_t parts;              /* how many parts were put, also where refused */
 } rcl_parted;
@@ -150,7 +158,7 @@ rcl_parted rcl_parts(const uint8_t *kinds, uintptr_t kinds_len, const uint64_t *
 
 /* The value of a string. */
 typedef struct rcl_valued {
-    uint64_t refused, number, low, high;
+    rcl_refusal refusal;
     uint64_t in_output;          /* 0: the value is the text's bytes from `start` to `end`; 1: the output's */
     uint64_t start, end;
     uint64_t parts;              /* how many parts were put into the parts list, also where refused */
@@ -182,18 +190,14 @@ rcl_tidied rcl_tidy(uint32_t doc, const uint8_t *text, uintptr_t len,
                     uint8_t *output, uintptr_t output_len);
 
 /* What a walker keeps that is opened with a text: a refusal 2 (at 0-0) or 1 (with the empty span where the bad sequence begins), which it gives at every step; else all 0. */
-typedef struct rcl_walker {
-    uint64_t refused, number, low, high;
-} rcl_walker;
-
-rcl_walker rcl_walker_open(uint32_t doc, const uint8_t *text, uintptr_t len);
+rcl_refusal rcl_walker_open(uint32_t doc, const uint8_t *text, uintptr_t len);
 
 /* A walker's step. */
 typedef struct rcl_stepped {
     uint64_t answer;             /* 0: a lexeme; 1: ended; 2: refused */
     uint64_t number;             /* the lexeme's kind code, or the refusal's number */
     uint64_t low, high;          /* its span */
-    uint64_t noted, note_low, note_high;
+    rcl_note note;
     uint64_t position, depth;    /* where the walker stands after it: as before where it ended or was refused */
 } rcl_stepped;
 

@@ -68,18 +68,18 @@ static void print_span(uint64_t low, uint64_t high) {
     printf(" %" PRIu64 "-%" PRIu64, RCL_SPAN_START(low), RCL_SPAN_END(low, high));
 }
 
-static void print_refusal(uint64_t number, uint64_t low, uint64_t high) {
-    printf("refused %" PRIu64, number);
-    print_span(low, high);
+static void print_refusal(const rcl_refusal *refusal) {
+    printf("refused %" PRIu64, refusal->number);
+    print_span(refusal->low, refusal->high);
 }
 
 /* Accepted, or the refusal with its note if it has one: the opener, where a closer is wrong or missing. */
 static void print_verdict(const rcl_lexed *lexed) {
-    if (lexed->refused) {
-        print_refusal(lexed->number, lexed->low, lexed->high);
-        if (lexed->noted) {
+    if (lexed->refusal.refused) {
+        print_refusal(&lexed->refusal);
+        if (lexed->note.noted) {
             printf(" note");
-            print_span(lexed->note_low, lexed->note_high);
+            print_span(lexed->note.low, lexed->note.high);
         }
     } else {
         printf("accepted");
@@ -131,15 +131,15 @@ static uint64_t print_value(uintptr_t len, uint64_t lexemes, uint64_t place, uin
     rcl_valued valued = rcl_value(text, len, kinds, PLACES, words, 2 * PLACES, lexemes, place,
                                   part_kinds, PART_PLACES, part_words, 2 * PART_PLACES, output, OUTPUT_MAX, position);
     rcl_answer checked;
-    if (valued.refused) {
-        print_refusal(valued.number, valued.low, valued.high);
+    if (valued.refusal.refused) {
+        print_refusal(&valued.refusal);
         printf("\n");
         return position;
     }
     /* Before bytes are handed on: they stand inside the array that is said to hold them. */
     checked = rcl_hand_check(text, len, output, OUTPUT_MAX, valued.in_output, valued.start, valued.end);
-    if (checked.refused) {
-        print_refusal(checked.number, checked.low, checked.high);
+    if (checked.refusal.refused) {
+        print_refusal(&checked.refusal);
         printf("\n");
         return position;
     }
@@ -191,7 +191,7 @@ int main(int argc, char **argv) {
         return 2;
     }
     lexed = list_lexemes(len);
-    if (lexed.refused) {
+    if (lexed.refusal.refused) {
         return 1;
     }
     print_tidied(len);

@@ -85,7 +85,7 @@ impl Comparison {
 
     fn scalar(&mut self, text: &[u8], lexeme: Entry, expected: Result<u64>) {
         let expected = Answer::of(expected);
-        self.ends.add_number(expected.number as u8);
+        self.ends.add_number(expected.refusal.number as u8);
         let room = &mut self.room;
         room.text.put(&mut self.random, text);
         let found = room.scalar_value(lexeme);
@@ -107,7 +107,7 @@ impl Comparison {
         room.output.fill(self.random.next(), output);
         let mut after = room.output.inside().to_vec();
         let expected = Answer::of(written(piece, lexeme, &mut after, position));
-        self.ends.add_number(expected.number as u8);
+        self.ends.add_number(expected.refusal.number as u8);
         let found = room.unescape_into(lexeme, position);
         let left = Left {
             text,

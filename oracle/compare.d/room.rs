@@ -150,7 +150,7 @@ impl Room {
         call!(self, rcl_hand_check, [text], [output], which, start, end)
     }
 
-    pub fn open(&mut self, doc: DocId) -> Walker {
+    pub fn open(&mut self, doc: DocId) -> Refusal {
         call!(self, rcl_walker_open, doc.0, [text])
     }
 

@@ -68,7 +68,7 @@ impl Comparison {
         let output = self.lend(case);
         let parted = case.parted();
         let expected = Parted::of(&parted);
-        self.others.add_number(expected.number as u8);
+        self.others.add_number(expected.refusal.number as u8);
         let found = self.room.parts(case.count, case.place);
         self.record("parts", case, expected, found, &parted.parts, &output);
         parted.parts
@@ -94,7 +94,7 @@ impl Comparison {
         expected: Answer,
         found: impl Fn(&mut Room) -> Answer,
     ) {
-        self.others.add_number(expected.number as u8);
+        self.others.add_number(expected.refusal.number as u8);
         let output = self.lend(case);
         let found = found(&mut self.room);
         self.record(call, case, expected, found, &[], &output);
@@ -105,7 +105,7 @@ impl Comparison {
         let Entry { kind, at } = lexeme;
         let written = escapes::unescape(&case.text, at, kind, &mut output, case.position);
         let expected = Answer::of(written.map(|bytes| bytes as u64));
-        self.others.add_number(expected.number as u8);
+        self.others.add_number(expected.refusal.number as u8);
         let found = self.room.unescape_into(lexeme, case.position);
         self.record("unescape", case, expected, found, &[], &output);
     }
@@ -199,10 +199,10 @@ fn lexed_and_valued(room: &mut Room, text: &[u8]) -> Result<Vec<u8>, u8> {
     let lexed = room.lex(DocId(7));
     let valued = room.value(lexed.lexemes as usize, 0, 0);
     let part = valued.start as usize..valued.end as usize;
-    match (valued.refused, valued.in_output) {
+    match (valued.refusal.refused, valued.in_output) {
         (0, 0) => Ok(text[part].to_vec()),
         (0, _) => Ok(room.output.inside()[part].to_vec()),
-        _ => Err(valued.number as u8),
+        _ => Err(valued.refusal.number as u8),
     }
 }
 

@@ -41,7 +41,7 @@ fn outcome(room: &mut Room, found: Tidied) -> Outcome {
     let kinds = room.list.kinds.inside();
     let listed = kinds.len().min(found.lexed.lexemes as usize);
     Outcome {
-        number: found.lexed.number,
+        number: found.lexed.refusal.number,
         written: found.written,
         kinds: kinds[..listed].to_vec(),
         output: room.output.inside().to_vec(),
@@ -64,7 +64,7 @@ impl Comparison {
         subject.lend(&mut self.random, &mut self.room);
         self.lend(1, Memory { places, output });
         let found = self.room.tidy(subject.doc);
-        let found = (found.lexed.refused, self.room.output.inside().to_vec());
+        let found = (found.lexed.refusal.refused, self.room.output.inside().to_vec());
         let expected = (0, EXAMPLE_TIDIED.to_vec());
         self.report.record(EXAMPLE, differing(&expected, &found));
     }

@@ -131,7 +131,7 @@ impl<'a> Side<'a> {
             let bytes = text.get(at.start() as usize..at.end() as usize);
             (*kind, bytes.unwrap_or(b"outside").to_vec())
         };
-        (found.number, listed.map(lexeme).collect())
+        (found.refusal.number, listed.map(lexeme).collect())
     }
 
     /// The value, from what the library answered and left.
@@ -146,7 +146,7 @@ impl<'a> Side<'a> {
         };
         let bytes = holder.get(found.start as usize..found.end as usize);
         Value {
-            number: found.number,
+            number: found.refusal.number,
             parts,
             in_output: found.in_output,
             bytes: bytes.unwrap_or(b"outside").to_vec(),
@@ -279,7 +279,7 @@ impl Comparison {
     fn hand(&mut self, side: &mut Side, part: Held) {
         let output = side.room.output.inside().to_vec();
         let expected = Answer::of(handed(side.text(), &output, part).map(|_| 0));
-        self.hands.add_number(expected.number as u8);
+        self.hands.add_number(expected.refusal.number as u8);
         let found = side.room.hand_check(part);
         let kept = side.room.output.wrong_after(output.iter().copied());
         let wrong = side.room.text.wrong(side.text()).or(kept);

@@ -1,7 +1,7 @@
 //! `rcl_walker_open` and `rcl_walker_step` beside the published lexer's own steps, walking
 //! texts from their opening; and beside document 01, on states made by hand.
 
-use crate::calls::{Stepped, Walker};
+use crate::calls::{Refusal, Stepped};
 use crate::room::Room;
 use crate::subject::{texts, Subject};
 use crate::told::Faults;
@@ -9,7 +9,7 @@ use judge::arguments::Arguments;
 use judge::generate::any_doc;
 use judge::generate::random::Random;
 use judge::generate::states::{State, States};
-use judge::refusal::Refusal;
+use judge::refusal::Refusal as Judged;
 use judge::report::{quoted, Ends, Report};
 use judge::walker::told::Keeps;
 use judge::walker::{self, opened, walk, Given, Place, Stack, Walked};
@@ -130,8 +130,8 @@ impl Comparison {
         self.report.record(&subject.text, wrong);
     }
 
-    fn compare_opening(&mut self, subject: &Subject, kept: Option<Refusal>) {
-        let expected = Walker::of(kept);
+    fn compare_opening(&mut self, subject: &Subject, kept: Option<Judged>) {
+        let expected = Refusal::of(kept);
         self.openings.add_number(expected.number as u8);
         let found = self.room.open(subject.doc);
         self.report.compare(&subject.text, expected, found);

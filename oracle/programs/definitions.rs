@@ -127,8 +127,10 @@ use Prim.Native.Nat.{ℕ}
 use mathlib.Core.Path.{_≡_, refl}
 use mathlib.Core.List.{List, [], _∷_}
 use mathlib.Core.Option.{Option, none, some}
-use Rattle.rules.specs.Spans.{Span, span, Verdict, refused, accepted}
-use Rattle.rules.specs.Lexing.{Lexed, Lexeme, lexeme, lexing, listing}
+use Rattle.rules.specs.Spans.{Span, span}
+use Rattle.rules.specs.Answers.{Verdict, refused, accepted}
+use Rattle.rules.specs.Lent.{Lexeme, lexeme}
+use Rattle.rules.specs.Lexing.{Lexed, lexing, listing}
 use Rattle.cases.specs.Computes.{computes}
 
 abbrev lexed : Verdict → (lexemes steps kept dropped deepest : ℕ) → Lexed

@@ -46,10 +46,7 @@ pub struct Lexed {
 impl Lexed {
     pub(crate) fn of(words: &raw::Lexed) -> Lexed {
         Lexed {
-            answer: match words.refused {
-                0 => Ok(()),
-                _ => Err(refusal(words)),
-            },
+            answer: Refusal::check(&words.refusal, &words.note),
             counts: Counts {
                 lexemes: words.lexemes as usize,
                 steps: words.steps as usize,
@@ -59,11 +56,6 @@ impl Lexed {
             },
         }
     }
-}
-
-fn refusal(words: &raw::Lexed) -> Refusal {
-    let note = (words.noted != 0).then_some([words.note_low, words.note_high]);
-    Refusal::of(words.number, [words.low, words.high], note)
 }
 
 /// Lexes a text as the document with the id `doc`, into a lent list with a lent stack.

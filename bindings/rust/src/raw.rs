@@ -6,17 +6,31 @@
 // What each of them is stands in include/rcl.h.
 #![allow(missing_docs)]
 
-/// `rcl_lexed`.
+/// `rcl_refusal`.
 #[repr(C)]
 #[derive(Copy, Clone, Debug, Default, Eq, PartialEq)]
-pub struct Lexed {
+pub struct Refusal {
     pub refused: u64,
     pub number: u64,
     pub low: u64,
     pub high: u64,
+}
+
+/// `rcl_note`.
+#[repr(C)]
+#[derive(Copy, Clone, Debug, Default, Eq, PartialEq)]
+pub struct Note {
     pub noted: u64,
-    pub note_low: u64,
-    pub note_high: u64,
+    pub low: u64,
+    pub high: u64,
+}
+
+/// `rcl_lexed`.
+#[repr(C)]
+#[derive(Copy, Clone, Debug, Default, Eq, PartialEq)]
+pub struct Lexed {
+    pub refusal: Refusal,
+    pub note: Note,
     pub lexemes: u64,
     pub steps: u64,
     pub kept: u64,
@@ -28,10 +42,7 @@ pub struct Lexed {
 #[repr(C)]
 #[derive(Copy, Clone, Debug, Default, Eq, PartialEq)]
 pub struct Answer {
-    pub refused: u64,
-    pub number: u64,
-    pub low: u64,
-    pub high: u64,
+    pub refusal: Refusal,
     pub count: u64,
 }
 
@@ -39,10 +50,7 @@ pub struct Answer {
 #[repr(C)]
 #[derive(Copy, Clone, Debug, Default, Eq, PartialEq)]
 pub struct Parted {
-    pub refused: u64,
-    pub number: u64,
-    pub low: u64,
-    pub high: u64,
+    pub refusal: Refusal,
     pub closer: u64,
     pub parts: u64,
 }
@@ -51,10 +59,7 @@ pub struct Parted {
 #[repr(C)]
 #[derive(Copy, Clone, Debug, Default, Eq, PartialEq)]
 pub struct Valued {
-    pub refused: u64,
-    pub number: u64,
-    pub low: u64,
-    pub high: u64,
+    pub refusal: Refusal,
     pub in_output: u64,
     pub start: u64,
     pub end: u64,
@@ -69,16 +74,6 @@ pub struct Tidied {
     pub written: u64,
 }
 
-/// `rcl_walker`: what opening keeps.
-#[repr(C)]
-#[derive(Copy, Clone, Debug, Default, Eq, PartialEq)]
-pub struct Walker {
-    pub refused: u64,
-    pub number: u64,
-    pub low: u64,
-    pub high: u64,
-}
-
 /// `rcl_stepped`.
 #[repr(C)]
 #[derive(Copy, Clone, Debug, Default, Eq, PartialEq)]
@@ -87,9 +82,7 @@ pub struct Stepped {
     pub number: u64,
     pub low: u64,
     pub high: u64,
-    pub noted: u64,
-    pub note_low: u64,
-    pub note_high: u64,
+    pub note: Note,
     pub position: u64,
     pub depth: u64,
 }
@@ -205,7 +198,7 @@ extern "C" {
         output_len: usize,
     ) -> Tidied;
 
-    pub fn rcl_walker_open(doc: u32, text: *const u8, len: usize) -> Walker;
+    pub fn rcl_walker_open(doc: u32, text: *const u8, len: usize) -> Refusal;
 
     pub fn rcl_walker_step(
         doc: u32,

@@ -3,7 +3,7 @@
 use std::error::Error;
 use std::fmt;
 
-use crate::Span;
+use crate::{raw, Span};
 
 /// Why a call gave no answer.
 ///
@@ -40,12 +40,25 @@ impl Refusal {
     }
 
     /// A refusal in the words of a result.
-    pub(crate) fn of(number: u64, words: [u64; 2], note: Option<[u64; 2]>) -> Refusal {
+    pub(crate) fn of(number: u64, words: [u64; 2], note: &raw::Note) -> Refusal {
         Refusal {
             number: number as u8,
             span: Span::unpack(words),
-            note: note.map(Span::unpack),
+            note: (note.noted != 0).then(|| Span::unpack([note.low, note.high])),
         }
+    }
+
+    /// The refusal of a result, if there is one.
+    pub(crate) fn check(words: &raw::Refusal, note: &raw::Note) -> Result<(), Refusal> {
+        match words.refused {
+            0 => Ok(()),
+            _ => Err(Refusal::of(words.number, [words.low, words.high], note)),
+        }
+    }
+
+    /// The refusal of a result without notes, if there is one.
+    pub(crate) fn check_noteless(words: &raw::Refusal) -> Result<(), Refusal> {
+        Refusal::check(words, &raw::Note::default())
     }
 }
 

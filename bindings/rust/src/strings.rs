@@ -29,10 +29,8 @@ pub fn is_keyword(bytes: &[u8]) -> bool {
 }
 
 pub(crate) fn counted(words: &raw::Answer) -> Result<u64, Refusal> {
-    match words.refused {
-        0 => Ok(words.count),
-        _ => Err(Refusal::of(words.number, [words.low, words.high], None)),
-    }
+    Refusal::check_noteless(&words.refusal)?;
+    Ok(words.count)
 }
 
 /// The character that an escape sequence stands for; the span and the kind are the
@@ -142,10 +140,8 @@ pub fn parts(list: Entries<'_>, place: usize, parts: &mut List<'_>) -> Result<us
         )
     };
     parts.count = words.parts as usize;
-    match words.refused {
-        0 => Ok(words.closer as usize),
-        _ => Err(Refusal::of(words.number, [words.low, words.high], None)),
-    }
+    Refusal::check_noteless(&words.refusal)?;
+    Ok(words.closer as usize)
 }
 
 /// The indent of a list of parts: over String parts that begin with a line feed, the fewest

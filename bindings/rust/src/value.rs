@@ -145,12 +145,12 @@ pub fn write_value(
 }
 
 fn held(words: &raw::Valued) -> Result<Held, Refusal> {
+    Refusal::check_noteless(&words.refusal)?;
     let (start, end) = (words.start as usize, words.end as usize);
-    match (words.refused, words.in_output) {
-        (0, 0) => Ok(Held::Text { start, end }),
-        (0, _) => Ok(Held::Output { start, end }),
-        _ => Err(Refusal::of(words.number, [words.low, words.high], None)),
-    }
+    Ok(match words.in_output {
+        0 => Held::Text { start, end },
+        _ => Held::Output { start, end },
+    })
 }
 
 /// Hands a value back: the part of the text or of the output where it stands.

@@ -37,7 +37,7 @@ pub struct Walker<'a> {
     text: &'a [u8],
     position: usize,
     depth: usize,
-    kept: raw::Walker,
+    kept: raw::Refusal,
 }
 
 impl<'a> Walker<'a> {
@@ -78,8 +78,7 @@ impl<'a> Walker<'a> {
 
     /// The refusal that opening met, if any.
     pub fn kept(&self) -> Option<Refusal> {
-        let kept = self.kept;
-        (kept.refused != 0).then(|| Refusal::of(kept.number, [kept.low, kept.high], None))
+        Refusal::check_noteless(&self.kept).err()
     }
 
     /// One step. Only an opener is written to the stack, at the place numbered by the depth
@@ -148,8 +147,8 @@ fn given(words: &raw::Stepped) -> Step {
         }),
         1 => Step::Ended,
         _ => {
-            let note = (words.noted != 0).then_some([words.note_low, words.note_high]);
-            Step::Refused(Refusal::of(words.number, [words.low, words.high], note))
+            let span = [words.low, words.high];
+            Step::Refused(Refusal::of(words.number, span, &words.note))
         }
     }
 }

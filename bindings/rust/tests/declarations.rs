@@ -1,5 +1,5 @@
-//! include/rcl.h, src/raw.rs and the exports of crates/rcl say the same: every call with its
-//! arguments in order, and every struct with its fields. The header's kind codes and its
+//! include/rcl.h, src/raw.rs, the exports of crates/rcl and the structs of crates/words say the
+//! same: every call with its arguments in order, and every struct with its fields. The header's kind codes and its
 //! macros for spans are those of this crate.
 
 use std::collections::BTreeMap;
@@ -229,7 +229,10 @@ fn header() -> Declared {
 }
 
 fn exports() -> Declared {
-    let files = fs::read_dir(top().join("crates/rcl/src")).expect("The exports stand there.");
+    let folders = ["crates/rcl/src", "crates/words/src"].map(|folder| top().join(folder));
+    let files = folders
+        .iter()
+        .flat_map(|folder| fs::read_dir(folder).expect("The exports and their structs."));
     let sources = files.map(|file| read(&file.expect("It can be listed.").path()));
     declared_in_rust(&sources.collect::<Vec<_>>().join("\n"))
 }
@@ -238,7 +241,7 @@ fn exports() -> Declared {
 fn the_header_and_rust() {
     let (header, raw) = (header(), declared_in_rust(include_str!("../src/raw.rs")));
     assert_eq!(header.calls.len(), 14);
-    assert_eq!(header.structs.len(), 8);
+    assert_eq!(header.structs.len(), 9);
     assert_eq!(header.calls, raw.calls);
     assert_eq!(header.structs, raw.structs);
 }

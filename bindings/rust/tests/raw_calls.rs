@@ -17,7 +17,7 @@ const DEPTH: usize = 1;
 
 /// A step that is told that this is kept, with room for the `[`. Where it is refused, the walker
 /// must stand where it stood and the stack must be untouched.
-fn step_told(kept: raw::Walker) -> raw::Stepped {
+fn step_told(kept: raw::Refusal) -> raw::Stepped {
     let (text, mut stack) = (b"([", Arrays::new(2));
     stack.kinds[0] = 33;
     let before = (stack.kinds.clone(), stack.words.clone());
@@ -48,8 +48,8 @@ fn step_told(kept: raw::Walker) -> raw::Stepped {
     stepped
 }
 
-fn words(refused: u64, number: u64, [low, high]: [u64; 2]) -> raw::Walker {
-    raw::Walker {
+fn words(refused: u64, number: u64, [low, high]: [u64; 2]) -> raw::Refusal {
+    raw::Refusal {
         refused,
         number,
         low,
@@ -58,7 +58,7 @@ fn words(refused: u64, number: u64, [low, high]: [u64; 2]) -> raw::Walker {
 }
 
 /// The words of a refusal, and the step that gives it.
-fn given(refusal: Refusal) -> (raw::Walker, raw::Stepped) {
+fn given(refusal: Refusal) -> (raw::Refusal, raw::Stepped) {
     let [low, high] = refusal.span.pack().unwrap();
     let stepped = raw::Stepped {
         answer: 2,
@@ -74,7 +74,7 @@ fn given(refusal: Refusal) -> (raw::Walker, raw::Stepped) {
 
 #[test]
 fn told_what_an_opening_gives() {
-    let stepped = step_told(raw::Walker::default());
+    let stepped = step_told(raw::Refusal::default());
     assert_eq!((stepped.answer, stepped.number, stepped.depth), (0, 35, 2));
     for place in [0, 1, 2, 3, 1 << 16, LARGEST_OFFSET] {
         let (kept, expected) = given(refused(1, place, place));
@@ -84,7 +84,7 @@ fn told_what_an_opening_gives() {
     assert_eq!(step_told(kept), expected);
 }
 
-fn assert_refused(kept: raw::Walker) {
+fn assert_refused(kept: raw::Refusal) {
     let (_, expected) = given(refused(40, 0, 0));
     assert_eq!(step_told(kept), expected, "{kept:?}");
 }
@@ -150,7 +150,7 @@ fn null_to_lexing_calls() {
         );
         assert_eq!((counted.lexed, counted.accepted), (accepted, 1));
         let kept = raw::rcl_walker_open(DOC, text, 0);
-        assert_eq!(kept, raw::Walker::default());
+        assert_eq!(kept, raw::Refusal::default());
         let stepped = raw::rcl_walker_step(DOC, text, 0, 0, 0, 0, 0, 0, 0, kinds, k, words, w);
         assert_eq!((stepped.answer, stepped.position, stepped.depth), (1, 0, 0));
     }
@@ -165,17 +165,17 @@ fn null_to_the_other_calls() {
         assert_eq!(raw::rcl_utf8(text, 0), u64::MAX);
         assert!(!raw::rcl_is_identifier(text, 0));
         assert!(!raw::rcl_is_keyword(text, 0));
-        assert_eq!(raw::rcl_scalar_value(text, 0, 0, 0, 11).number, 40);
+        assert_eq!(raw::rcl_scalar_value(text, 0, 0, 0, 11).refusal.number, 40);
         let written = raw::rcl_unescape_into(text, 0, 0, 0, 11, bytes, b, 0);
-        assert_eq!(written.number, 40);
+        assert_eq!(written.refusal.number, 40);
         let indent = raw::rcl_count_common_leading_spaces(text, 0, kinds, k, words, w, 0);
         assert_eq!(indent, raw::Answer::default());
         let parted = raw::rcl_parts(kinds, k, words, w, 0, 0, kinds, k, words, w);
-        assert_eq!(parted.number, 50);
+        assert_eq!(parted.refusal.number, 50);
         let valued = raw::rcl_value(
             text, 0, kinds, k, words, w, 0, 0, kinds, k, words, w, bytes, b, 0,
         );
-        assert_eq!(valued.number, 50);
+        assert_eq!(valued.refusal.number, 50);
         for which in [0, 1] {
             let answer = raw::rcl_hand_check(text, 0, bytes, b, which, 0, 0);
             assert_eq!(answer, raw::Answer::default());

@@ -9,7 +9,7 @@ mod raw;
 pub use raw::*;
 
 use judge::reference::{self, Counts};
-use judge::refusal::Refusal;
+use judge::refusal::Refusal as Judged;
 use judge::report::Damage;
 use judge::respace;
 use judge::source::words;
@@ -21,12 +21,37 @@ use judge::walker::{self, Given};
 // What the judge answers, in the words that must come back: 0 where there is nothing to
 // say.
 
+impl Refusal {
+    pub fn of(judged: Option<Judged>) -> Refusal {
+        judged.map_or(Refusal::default(), |judged| {
+            let (low, high) = words::of(judged.span);
+            Refusal {
+                refused: 1,
+                number: judged.number as u64,
+                low,
+                high,
+            }
+        })
+    }
+}
+
+impl Note {
+    fn of(judged: Judged) -> Note {
+        let (low, high) = judged.note.map_or((0, 0), words::of);
+        Note {
+            noted: judged.note.is_some() as u64,
+            low,
+            high,
+        }
+    }
+}
+
 impl Lexed {
     pub fn of(answer: &reference::Answer) -> Lexed {
         let counted = Lexed::counted(answer.counts);
         match answer.refusal {
             None => counted,
-            Some(refusal) => counted.refused(refusal),
+            Some(judged) => counted.refused(judged),
         }
     }
 
@@ -41,17 +66,10 @@ impl Lexed {
         }
     }
 
-    fn refused(self, refusal: Refusal) -> Lexed {
-        let (low, high) = words::of(refusal.span);
-        let (note_low, note_high) = refusal.note.map_or((0, 0), words::of);
+    fn refused(self, judged: Judged) -> Lexed {
         Lexed {
-            refused: 1,
-            number: refusal.number as u64,
-            low,
-            high,
-            noted: refusal.note.is_some() as u64,
-            note_low,
-            note_high,
+            refusal: Refusal::of(Some(judged)),
+            note: Note::of(judged),
             ..self
         }
     }
@@ -97,13 +115,13 @@ impl Answer {
     }
 
     fn refused(refused: Refused) -> Answer {
-        Answer {
+        let refusal = Refusal {
             refused: 1,
             number: refused.number as u64,
             low: refused.at.low,
             high: refused.at.high,
-            count: 0,
-        }
+        };
+        Answer { refusal, count: 0 }
     }
 }
 
@@ -111,10 +129,7 @@ impl Parted {
     pub fn of(parted: &strings::parts::Parted) -> Parted {
         let answer = Answer::of(parted.closer.map(|place| place as u64));
         Parted {
-            refused: answer.refused,
-            number: answer.number,
-            low: answer.low,
-            high: answer.high,
+            refusal: answer.refusal,
             closer: answer.count,
             parts: parted.parts.len() as u64,
         }
@@ -130,29 +145,12 @@ impl Valued {
         };
         let answer = Answer::of(valued.value.map(|_| 0));
         Valued {
-            refused: answer.refused,
-            number: answer.number,
-            low: answer.low,
-            high: answer.high,
+            refusal: answer.refusal,
             in_output,
             start,
             end,
             parts: valued.parts.len() as u64,
         }
-    }
-}
-
-impl Walker {
-    pub fn of(kept: Option<Refusal>) -> Walker {
-        kept.map_or(Walker::default(), |refusal| {
-            let (low, high) = words::of(refusal.span);
-            Walker {
-                refused: 1,
-                number: refusal.number as u64,
-                low,
-                high,
-            }
-        })
     }
 }
 
@@ -173,7 +171,7 @@ impl Stepped {
                 answer: 1,
                 ..Stepped::default()
             },
-            Given::Refused(refusal) => Stepped::refused(refusal),
+            Given::Refused(judged) => Stepped::refused(judged),
         };
         Stepped {
             position: stepped.after.position as u64,
@@ -182,17 +180,14 @@ impl Stepped {
         }
     }
 
-    fn refused(refusal: Refusal) -> Stepped {
-        let (low, high) = words::of(refusal.span);
-        let (note_low, note_high) = refusal.note.map_or((0, 0), words::of);
+    fn refused(judged: Judged) -> Stepped {
+        let (low, high) = words::of(judged.span);
         Stepped {
             answer: 2,
-            number: refusal.number as u64,
+            number: judged.number as u64,
             low,
             high,
-            noted: refusal.note.is_some() as u64,
-            note_low,
-            note_high,
+            note: Note::of(judged),
             ..Stepped::default()
         }
     }
@@ -242,7 +237,7 @@ impl Damage for Valued {
     }
 }
 
-impl Damage for Walker {
+impl Damage for Refusal {
     fn damage(&mut self) {
         self.number ^= 1;
     }

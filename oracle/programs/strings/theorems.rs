@@ -18,23 +18,25 @@ use mathlib.Core.Path.{_≡_, refl}
 use mathlib.Core.List.{List, [], _∷_}
 use mathlib.Core.Bool.{true, false}
 use mathlib.Core.Option.{Option, none, some}
-use Rattle.rules.specs.Spans.{Span, span, spanOf, Answer, given, refuse, Verdict, refused, accepted}
+use Rattle.rules.specs.Spans.{Span, span, spanOf}
+use Rattle.rules.specs.Answers.{Answer, given, refuse, Verdict, refused, accepted}
+use Rattle.rules.specs.Lent.{Arrays, arrays}
 use Rattle.rules.specs.Names.{isIdentifier, isKeyword}
 use Rattle.rules.specs.Escapes.{Unescaped, escapeScalar, unescape}
 use Rattle.rules.specs.Indent.{indentCall}
 use Rattle.rules.specs.Parts.{PartsCall, partsCall}
-use Rattle.rules.specs.Value.{Where, inText, inOutput, ValueCall, valueCall, handedPart}
+use Rattle.rules.specs.Value.{Held, inText, inOutput, ValueCall, valueCall, handedPart}
 use Rattle.rules.specs.Tidy.{Tidied, tidying}
 use Rattle.cases.specs.Computes.{computes}
 
 abbrev unescaped : Answer ℕ → List ℕ → Unescaped
 unescaped a out = record { answer = a; output = out }
 
-abbrev parted : Answer ℕ → ℕ → (kinds words : List ℕ) → PartsCall
-parted a n ks ws = record { answer = a; parts = n; kinds = ks; words = ws }
+abbrev parted : Answer ℕ → ℕ → Arrays → PartsCall
+parted a n parts = record { answer = a; parts = n; arrays = parts }
 
-abbrev valued : Answer Where → ℕ → (kinds words out : List ℕ) → ValueCall
-valued a n ks ws out = record { answer = a; parts = n; kinds = ks; words = ws; output = out }
+abbrev valued : Answer Held → ℕ → Arrays → List ℕ → ValueCall
+valued a n parts out = record { answer = a; parts = n; arrays = parts; output = out }
 
 abbrev stop : (number : ℕ) → Span → Option Span → Verdict
 stop n s note = refused (record { number = n; at = s; note = note })
@@ -116,10 +118,9 @@ fn lexeme(escape: &Escape) -> String {
 }
 
 fn indent_equation(case: &Case) -> (String, String) {
-    let (kinds, words) = arrays(&case.list);
-    let (text, count) = (list(&case.text), case.count);
+    let (text, parts, count) = (list(&case.text), arrays(&case.list), case.count);
     (
-        format!("indentCall {text} {kinds} {words} {count}"),
+        format!("indentCall {text} {parts} {count}"),
         answer(&indented(case)),
     )
 }
@@ -212,23 +213,21 @@ pub fn written_span(span: Span) -> String {
 
 /// The list with its count and the opener's place, and the parts list before the call.
 fn lists(case: &Case) -> String {
-    let (kinds, words) = arrays(&case.list);
-    let (count, place) = (case.count, case.place);
-    format!("{kinds} {words} {count} {place} {}", filled(case, &[]))
+    let (list, count, place) = (arrays(&case.list), case.count, case.place);
+    format!("{list} {count} {place} {}", filled(case, &[]))
 }
 
 /// The arrays of the parts list with these parts, every other cell 0.
 fn filled(case: &Case, parts: &[Entry]) -> String {
     let mut all = vec![Entry::default(); case.room];
     all[..parts.len()].copy_from_slice(parts);
-    let (kinds, words) = arrays(&all);
-    format!("{kinds} {words}")
+    arrays(&all)
 }
 
-fn arrays(entries: &[Entry]) -> (String, String) {
+fn arrays(entries: &[Entry]) -> String {
     let kinds: Vec<u8> = entries.iter().map(|e| e.kind).collect();
     let words: Vec<u64> = entries.iter().flat_map(|e| [e.at.low, e.at.high]).collect();
-    (list(&kinds), list(&words))
+    format!("(arrays {} {})", list(&kinds), list(&words))
 }
 
 fn list<T: ToString>(items: &[T]) -> String {
