@@ -10,10 +10,10 @@ use borrow.Author.Tests.{ltb-false}
 use Rattle.rules.specs.Spans.{Span, nowhere, limit, isBad, enclosing}
 use Rattle.rules.specs.Answers.{Answer}
 use Rattle.rules.specs.Kinds.{QuoteClose, StringInner, HoleOpen, HoleClose, isQuoteOpen, isEscape}
-use Rattle.rules.specs.Lent.{Lexeme, placesOf, lexemesIn, kindsWith, wordsWith}
+use Rattle.rules.specs.Lent.{Lexeme, Arrays, arrayPlaces, contents, holding}
 use Rattle.rules.specs.Parts.{Effect, closes, refuses, passes, yields, effect, Parts, partsFrom, partsOf, followEffect, inRoom, partsIn}
 use Rattle.rules.proofs.Text.{decide, neither}
-use Rattle.rules.proofs.Listed.{AllWords, lexemes-with}
+use Rattle.rules.proofs.Listed.{AllWords, contents-holding}
 
 -- a span that starts and ends within the limit
 abbrev pub Within : Span → Type 0
@@ -31,20 +31,20 @@ good-within s e =
 enclosing-within : (s t : Span) → Within s → Within t → Within (enclosing s t)
 enclosing-within s t a b = (omega (arith, a .0, b .0), omega (arith, a .1, b .1))
 
--- what a turn keeps or completes lies within the limit
-data TurnWithin : Effect → Type 0 where
-  ends : TurnWithin closes
-  stops : {n : ℕ} {s : Span} → TurnWithin (refuses n s)
-  keeps : {depth : ℕ} {hole : Span} → Within hole → TurnWithin (passes depth hole)
-  completes : {p : Lexeme} → Within (p .at) → TurnWithin (yields p)
+-- what an effect keeps or completes lies within the limit
+data EffectWithin : Effect → Type 0 where
+  ends : EffectWithin closes
+  stops : {n : ℕ} {s : Span} → EffectWithin (refuses n s)
+  keeps : {depth : ℕ} {hole : Span} → Within hole → EffectWithin (passes depth hole)
+  completes : {p : Lexeme} → Within (p .at) → EffectWithin (yields p)
 
-one-within : (b : Bool) {t u : Effect} → TurnWithin t → TurnWithin u → TurnWithin (cond b t u)
+one-within : (b : Bool) {t u : Effect} → EffectWithin t → EffectWithin u → EffectWithin (cond b t u)
 one-within true a b = a
 one-within false a b = b
 
-turn-within : (depth : ℕ) (hole : Span) (l : Lexeme) → Within hole → TurnWithin (effect depth hole l)
+effect-within : (depth : ℕ) (hole : Span) (l : Lexeme) → Within hole → EffectWithin (effect depth hole l)
 unfolding effect
-turn-within depth hole l h = decide (isBad (l .at))
+effect-within depth hole l h = decide (isBad (l .at))
     (λ e. rw e stops)
     (λ e.
     let here = good-within (l .at) e in
@@ -55,7 +55,7 @@ turn-within depth hole l h = decide (isBad (l .at))
     (one-within (eqb depth 2) (one-within (eqb (hole .doc) (l .at .doc)) (completes (enclosing-within hole (l .at) h here)) stops) (keeps h))
     (keeps h)))))
 
-follow-within : {t : Effect} (place : ℕ) (go : (depth : ℕ) (hole : Span) → Parts) → TurnWithin t → ((depth : ℕ) (hole : Span) → Within hole → AllWords (go depth hole .found)) → AllWords (followEffect t place go .found)
+follow-within : {t : Effect} (place : ℕ) (go : (depth : ℕ) (hole : Span) → Parts) → EffectWithin t → ((depth : ℕ) (hole : Span) → Within hole → AllWords (go depth hole .found)) → AllWords (followEffect t place go .found)
 follow-within place go ends h = tt
 follow-within place go stops h = tt
 follow-within place go (keeps {depth} {hole} g) h = h depth hole g
@@ -64,7 +64,7 @@ follow-within place go (completes g) h = (g .0, g .1, h 1 nowhere (omega arith, 
 from-within : (ls : List Lexeme) (place depth : ℕ) (hole : Span) → Within hole → AllWords (partsFrom place depth hole ls .found)
 from-within [] place depth hole h = tt
 from-within (l ∷ ls) place depth hole h =
-    follow-within place (λ d s. partsFrom (suc place) d s ls) (turn-within depth hole l h) (λ d s g. from-within ls (suc place) d s g)
+    follow-within place (λ d s. partsFrom (suc place) d s ls) (effect-within depth hole l h) (λ d s g. from-within ls (suc place) d s g)
 
 found-one : (b : Bool) (p q : Parts) → AllWords (p .found) → AllWords (q .found) → AllWords (cond b p q .found)
 found-one true p q a b = a
@@ -98,7 +98,7 @@ module _ (room place : ℕ) (ls : List Lexeme) where
   found-most = room-most room (partsOf place ls .found) (partsOf place ls .answer)
 
 -- the parts that were written are read back
-pub found-read : (place : ℕ) (ls : List Lexeme) (ks ws : List ℕ)
-    → take (length (partsIn (placesOf ks ws) place ls .found)) (lexemesIn (kindsWith (partsIn (placesOf ks ws) place ls .found) ks) (wordsWith (partsIn (placesOf ks ws) place ls .found) ws)) ≡ partsIn (placesOf ks ws) place ls .found
-found-read place ls ks ws =
-    lexemes-with (partsIn (placesOf ks ws) place ls .found) ks ws (found-most (placesOf ks ws) place ls) (found-within (placesOf ks ws) place ls)
+pub found-read : (place : ℕ) (ls : List Lexeme) (parts : Arrays) →
+    let ps = partsIn (arrayPlaces parts) place ls .found in take (length ps) (contents (holding ps parts)) ≡ ps
+found-read place ls parts =
+    contents-holding (partsIn (arrayPlaces parts) place ls .found) parts (found-most (arrayPlaces parts) place ls) (found-within (arrayPlaces parts) place ls)

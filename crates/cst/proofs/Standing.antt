@@ -1,24 +1,24 @@
 -- Where the search for the closer stands: the parts behind it are listed in the arrays, and those ahead are still to be found.
-use Prim.Native.Nat.{ℕ, zero, suc, pred, _+_, _-_, _*_, _≤_, _<_}
+use Prim.Native.Nat.{ℕ, zero, suc, pred, _-_, _≤_, _<_}
 use native.Mathlib.Omega.{arith}
 use mathlib.Core.Path.{_≡_, refl, sym, ap, _∙_}
-use mathlib.Core.Bool.{true, false, _||_}
+use mathlib.Core.Bool.{false, _||_}
 use mathlib.Core.List.{List, [], _∷_, _++_, append-assoc, append-nil}
-use lib.Dec.{leb, ltb, eqb}
-use lib.ListN.{length, take, drop, set, length-append, length-map, length-drop, length-take, drop-of-length-le}
-use borrow.Author.Tests.{leb-true, leb-false, eqb-false, lt-ltb}
+use lib.Dec.{leb, eqb}
+use lib.ListN.{length, take, drop, length-append, length-take, drop-of-length-le}
+use borrow.Author.Tests.{leb-true, leb-false, eqb-false}
 use Rattle.rules.specs.Refusals.{BadSpan, ListFull, NoString}
-use Rattle.rules.specs.Spans.{Span, low, high, nowhere, isBad}
+use Rattle.rules.specs.Spans.{Span, nowhere, isBad}
 use Rattle.rules.specs.Answers.{Answer, given, refused, refuse}
 use Rattle.rules.specs.Source.{unionOf}
 use Rattle.rules.specs.Kinds.{QuoteClose, StringInner, HoleOpen, HoleClose, isQuoteOpen, isEscape}
-use Rattle.rules.specs.Lent.{Lexeme, lexeme, placesOf, lexemesIn, wordsOf, kindsWith, wordsWith, holding, lexemesFrom, arrays}
+use Rattle.rules.specs.Lent.{Lexeme, lexeme, Arrays, arrayPlaces, contents, lexemesFrom, holding}
 use Rattle.rules.specs.Parts.{Effect, closes, refuses, passes, yields, holeEnds, effect, Parts, noParts, partThen, followEffect, partsFrom, partsOf, inRoom, partsIn, partsCall, ListsParts}
-use Rattle.rules.proofs.Listed.{same-arrays}
+use Rattle.rules.proofs.Lent.{AsLong, holding-long}
 use Rattle.rules.proofs.Text.{decide, branch}
-use Rattle.rules.proofs.Trace.{kinds-length, words-length, kinds-snoc, words-snoc}
-use Rattle.list.specs.Entries.{firstOf, PutAt}
-use Rattle.list.proofs.Entries.{places-length, first-drop, first-taken}
+use Rattle.list.specs.Entries.{firstOf, putIn}
+use Rattle.rules.proofs.Listed.{places-length}
+use Rattle.list.proofs.Entries.{first-drop, first-taken, put-behind}
 use Rattle.cst.specs.declared.Progress.{Progress}
 use Rattle.cst.specs.declared.Progress.the-variants.{Passes, Yields}
 use Rattle.cst.specs.declared.Open.{Open}
@@ -26,7 +26,7 @@ use Rattle.cst.specs.declared.Ending.{Ending}
 use Rattle.cst.specs.declared.Ending.the-variants.{Closes, Refuses}
 use Rattle.source.specs.Meaning.{spanMeant}
 use Rattle.cst.specs.Meaning.{partMeant}
-use Rattle.cst.specs.Search.{progressMeant, endingMeant, openerEffect, orFull, opens, openMeant, openAfter, partsAfter, answerAt, HasRoom, Wrote, Searched}
+use Rattle.cst.specs.Search.{progressMeant, endingMeant, openerEffect, orFull, opens, openMeant, openAfter, partsAfter, answerAt, partPut, Searched}
 
 -- a hole's span, or the refusal of it, as what the closer of the hole does
 abbrev pub endsWith : Answer Span → Effect
@@ -112,38 +112,6 @@ unfolding orFull
 full-stop room n Closes = refl
 full-stop room n (Refuses k a) = refl
 
--- nothing is written for a lexeme that is passed over
-pub wrote-none : (d : ℕ) (h : Span) (n : ℕ) (pks pws : List ℕ) → Wrote (passes d h) n pks pws pks pws
-wrote-none d h n pks pws = record { kinds = λ ps len ks e. rw (append-nil ps) e; words = λ ps len ws e. rw (append-nil ps) e }
-
--- how long the kinds are with some lexemes at their start
-length-with : (ps : List Lexeme) (ks : List ℕ) → length (kindsWith ps ks) ≡ length ps + (length ks - length ps)
-length-with ps ks = simp (length-append, length-map, length-drop)
-
--- two words for each lexeme
-length-words : (ps : List Lexeme) → length (wordsOf ps) ≡ length ps * 2
-length-words [] = refl
-length-words (p ∷ ps) = omega (arith, length-words ps)
-
--- how long the words are with some lexemes at their start
-length-words-with : (ps : List Lexeme) (ws : List ℕ) → length (wordsWith ps ws) ≡ length ps * 2 + (length ws - length ps * 2)
-length-words-with ps ws = simp (length-append, length-words, length-drop)
-
--- a part that is put at the next place is one more of those that stand in the arrays
-pub wrote-part : (p : Lexeme) (n : ℕ) (pks pws pks′ pws′ : List ℕ) → n < placesOf pks pws → PutAt n p pks pws pks′ pws′ → Wrote (yields p) n pks pws pks′ pws′
-wrote-part p n pks pws pks′ pws′ room put =
-    let there : ltb n (placesOf pks pws) ≡ true = lt-ltb n (placesOf pks pws) room in
-    let kinds : pks′ ≡ set pks n (p .kind) = put .kinds ∙ rw there in
-    let words : pws′ ≡ set (set pws (n * 2) (low (p .at))) (n * 2 + 1) (high (p .at)) = put .words ∙ rw there in
-    record {
-      kinds = λ ps len ks e.
-          let long : length ps < length ks = omega (arith, ap length e, length-with ps ks) in
-          kinds ∙ rw (← len, e) (sym (kinds-snoc ps p ks long));
-      words = λ ps len ws e.
-          let long : length ps * 2 + 1 < length ws = omega (arith, ap length e, length-words-with ps ws) in
-          words ∙ rw (← len, e) (sym (words-snoc ps p ws long));
-    }
-
 -- parts in a list of so many places
 abbrev pub within : ℕ → Parts → Parts
 within room p = inRoom room (p .found) (p .answer)
@@ -180,56 +148,41 @@ open-depth same = cc
 open-hole : {d e : ℕ} {g h : Span} → opens d g ≡ opens e h → g ≡ h
 open-hole same = cc
 
--- of a list that was entered at `start` with arrays pks₀ and pws₀: the search is at `place`, with the arrays pks and pws, this depth and hole open, and so many parts listed
-pub record Stands (ls : List Lexeme) (start : ℕ) (pks₀ pws₀ pks pws : List ℕ) (place depth : ℕ) (hole : Span) (n : ℕ) : Type 0 where
+-- of a list that was entered at `start` with this parts list: the search is at `place`, with that one, this depth and hole open, and so many parts listed
+pub record Stands (ls : List Lexeme) (start : ℕ) (parts₀ parts : Arrays) (place depth : ℕ) (hole : Span) (n : ℕ) : Type 0 where
   pub past : List Lexeme
   pub counted : n ≡ length past
-  pub fits : n ≤ placesOf pks₀ pws₀
-  pub kinds : pks ≡ kindsWith past pks₀
-  pub words : pws ≡ wordsWith past pws₀
-  pub whole : within (placesOf pks₀ pws₀) (partsFrom start 1 nowhere (drop start ls)) ≡ behind past (within (placesOf pks₀ pws₀ - n) (partsFrom place depth hole (drop place ls)))
+  pub fits : n ≤ arrayPlaces parts₀
+  pub listed : parts ≡ holding past parts₀
+  pub whole : within (arrayPlaces parts₀) (partsFrom start 1 nowhere (drop start ls)) ≡ behind past (within (arrayPlaces parts₀ - n) (partsFrom place depth hole (drop place ls)))
   pub lower : 1 ≤ depth
   pub upper : depth ≤ suc place
   pub good : isBad hole ≡ false
   pub fewer : n ≤ place
 
 -- at its start nothing is behind
-pub stands-start : (ls : List Lexeme) (start : ℕ) (pks pws : List ℕ) → Stands ls start pks pws pks pws start 1 nowhere 0
-stands-start ls start pks pws =
-    let all : placesOf pks pws - 0 ≡ placesOf pks pws = omega arith in
-    record { past = []; counted = refl; fits = omega arith; kinds = refl; words = refl; whole = rw all; lower = omega arith; upper = omega arith; good = refl; fewer = omega arith }
+pub stands-start : (ls : List Lexeme) (start : ℕ) (parts : Arrays) → Stands ls start parts parts start 1 nowhere 0
+stands-start ls start parts =
+    let all : arrayPlaces parts - 0 ≡ arrayPlaces parts = omega arith in
+    record { past = []; counted = refl; fits = omega arith; listed = refl; whole = rw all; lower = omega arith; upper = omega arith; good = refl; fewer = omega arith }
 
-module _ {ls : List Lexeme} {start : ℕ} {pks₀ pws₀ pks pws : List ℕ} {place depth : ℕ} {hole : Span} {n : ℕ} (st : Stands ls start pks₀ pws₀ pks pws place depth hole n) where
-  -- the kinds are as many as they were
-  pub same-kinds : length pks ≡ length pks₀
-  same-kinds = rw (st .kinds) (kinds-length (st .past) pks₀ (omega (arith, st .counted, st .fits)))
-
-  -- so are their words
-  pub same-words : length pws ≡ length pws₀
-  same-words = rw (st .words) (words-length (st .past) pws₀ (omega (arith, st .counted, st .fits)))
-
-  -- there is a place for the part that a lexeme completes
-  pub has-room : (l : Lexeme) (t : Effect) → orFull (placesOf pks₀ pws₀) n (effect depth hole l) ≡ t → HasRoom t n pks pws
-  has-room l t e =
-      record {
-        room = λ p f.
-            let more : n < placesOf pks₀ pws₀ = (full-yields (placesOf pks₀ pws₀) n (effect depth hole l) p (e ∙ f)) .1 in
-            omega (arith, same-kinds, same-words);
-      }
+module _ {ls : List Lexeme} {start : ℕ} {parts₀ parts : Arrays} {place depth : ℕ} {hole : Span} {n : ℕ} (st : Stands ls start parts₀ parts place depth hole n) where
+  -- the parts list is as long as it was
+  pub as-long : AsLong parts₀ parts
+  as-long = rw (st .listed) (holding-long (st .past) parts₀ (omega (arith, st .counted, st .fits)))
 
   -- after a lexeme that is passed over
-  stands-passes : (l : Lexeme) → drop place ls ≡ l ∷ drop (suc place) ls → (d : ℕ) (h : Span) → orFull (placesOf pks₀ pws₀) n (effect depth hole l) ≡ passes d h →
-      (pks′ pws′ : List ℕ) → Wrote (passes d h) n pks pws pks′ pws′ → Stands ls start pks₀ pws₀ pks′ pws′ (suc place) d h n
-  stands-passes l here d h e pks′ pws′ wrote =
-      let t : effect depth hole l ≡ passes d h = full-passes (placesOf pks₀ pws₀) n (effect depth hole l) d h e in
+  stands-passes : (l : Lexeme) → drop place ls ≡ l ∷ drop (suc place) ls → (d : ℕ) (h : Span) → orFull (arrayPlaces parts₀) n (effect depth hole l) ≡ passes d h →
+      Stands ls start parts₀ parts (suc place) d h n
+  stands-passes l here d h e =
+      let t : effect depth hole l ≡ passes d h = full-passes (arrayPlaces parts₀) n (effect depth hole l) d h e in
       let o : Opens depth d h = passed-opens depth hole l d h (st .lower) (st .good) t in
       let next : partsFrom place depth hole (drop place ls) ≡ partsFrom (suc place) d h (drop (suc place) ls) = ap (partsFrom place depth hole) here ∙ rw t in
       record {
         past = st .past;
         counted = st .counted;
         fits = st .fits;
-        kinds = wrote .kinds (st .past) (sym (st .counted)) pks₀ (st .kinds) ∙ rw (append-nil (st .past));
-        words = wrote .words (st .past) (sym (st .counted)) pws₀ (st .words) ∙ rw (append-nil (st .past));
+        listed = st .listed;
         whole = st .whole ∙ rw next;
         lower = o .lower;
         upper = omega (arith, o .upper, st .upper);
@@ -238,21 +191,20 @@ module _ {ls : List Lexeme} {start : ℕ} {pks₀ pws₀ pks pws : List ℕ} {pl
       }
 
   -- after a lexeme that completes a part
-  stands-yields : (l : Lexeme) → drop place ls ≡ l ∷ drop (suc place) ls → (p : Lexeme) → orFull (placesOf pks₀ pws₀) n (effect depth hole l) ≡ yields p →
-      (pks′ pws′ : List ℕ) → Wrote (yields p) n pks pws pks′ pws′ → Stands ls start pks₀ pws₀ pks′ pws′ (suc place) 1 nowhere (suc n)
-  stands-yields l here p e pks′ pws′ wrote =
-      let t = full-yields (placesOf pks₀ pws₀) n (effect depth hole l) p e in
+  stands-yields : (l : Lexeme) → drop place ls ≡ l ∷ drop (suc place) ls → (p : Lexeme) → orFull (arrayPlaces parts₀) n (effect depth hole l) ≡ yields p →
+      Stands ls start parts₀ (putIn n p parts) (suc place) 1 nowhere (suc n)
+  stands-yields l here p e =
+      let t = full-yields (arrayPlaces parts₀) n (effect depth hole l) p e in
       let ahead : Parts = partsFrom (suc place) 1 nowhere (drop (suc place) ls) in
       let next : partsFrom place depth hole (drop place ls) ≡ partThen p ahead = ap (partsFrom place depth hole) here ∙ rw (t .0) in
-      let one : placesOf pks₀ pws₀ - n ≡ suc (placesOf pks₀ pws₀ - suc n) = omega (arith, t .1) in
-      let limited : within (placesOf pks₀ pws₀ - n) (partsFrom place depth hole (drop place ls)) ≡ partThen p (within (placesOf pks₀ pws₀ - suc n) ahead) = rw (next, one) in
+      let one : arrayPlaces parts₀ - n ≡ suc (arrayPlaces parts₀ - suc n) = omega (arith, t .1) in
+      let limited : within (arrayPlaces parts₀ - n) (partsFrom place depth hole (drop place ls)) ≡ partThen p (within (arrayPlaces parts₀ - suc n) ahead) = rw (next, one) in
       record {
         past = st .past ++ (p ∷ []);
         counted = omega (arith, length-append (st .past) (p ∷ []), st .counted);
         fits = omega (arith, t .1);
-        kinds = wrote .kinds (st .past) (sym (st .counted)) pks₀ (st .kinds);
-        words = wrote .words (st .past) (sym (st .counted)) pws₀ (st .words);
-        whole = st .whole ∙ ap (behind (st .past)) limited ∙ rw (append-assoc (st .past) (p ∷ []) ((within (placesOf pks₀ pws₀ - suc n) ahead) .found));
+        listed = rw (st .listed, st .counted) (put-behind (st .past) p parts₀ (omega (arith, st .counted, t .1)));
+        whole = st .whole ∙ ap (behind (st .past)) limited ∙ rw (append-assoc (st .past) (p ∷ []) ((within (arrayPlaces parts₀ - suc n) ahead) .found));
         lower = omega arith;
         upper = omega arith;
         good = refl;
@@ -260,54 +212,54 @@ module _ {ls : List Lexeme} {start : ℕ} {pks₀ pws₀ pks pws : List ℕ} {pl
       }
 
   -- after any lexeme that does not end the search
-  pub stands-on : (l : Lexeme) → drop place ls ≡ l ∷ drop (suc place) ls → (m : Progress) → orFull (placesOf pks₀ pws₀) n (effect depth hole l) ≡ progressMeant m →
-      (pks′ pws′ : List ℕ) → Wrote (progressMeant m) n pks pws pks′ pws′ → (o : Open) → openMeant o ≡ openAfter (progressMeant m) →
-      Stands ls start pks₀ pws₀ pks′ pws′ (suc place) (o .depth) (spanMeant (o .hole)) (partsAfter (progressMeant m) n)
-  stands-on l here (Passes a) e pks′ pws′ wrote o after = rw (open-depth after, open-hole after) (stands-passes l here (a .depth) (spanMeant (a .hole)) e pks′ pws′ wrote)
-  stands-on l here (Yields p) e pks′ pws′ wrote o after = rw (open-depth after, open-hole after) (stands-yields l here (partMeant p) e pks′ pws′ wrote)
+  pub stands-on : (l : Lexeme) → drop place ls ≡ l ∷ drop (suc place) ls → (m : Progress) → orFull (arrayPlaces parts₀) n (effect depth hole l) ≡ progressMeant m →
+      {parts′ : Arrays} → parts′ ≡ partPut (progressMeant m) n parts → (o : Open) → openMeant o ≡ openAfter (progressMeant m) →
+      Stands ls start parts₀ parts′ (suc place) (o .depth) (spanMeant (o .hole)) (partsAfter (progressMeant m) n)
+  stands-on l here (Passes a) e put o after = rw (put, open-depth after, open-hole after) (stands-passes l here (a .depth) (spanMeant (a .hole)) e)
+  stands-on l here (Yields p) e put o after = rw (put, open-depth after, open-hole after) (stands-yields l here (partMeant p) e)
 
   -- the search is over: what is ahead is an answer and no more parts
-  stands-out : (a : Answer ℕ) → within (placesOf pks₀ pws₀ - n) (partsFrom place depth hole (drop place ls)) ≡ noParts a → Searched (partsFrom start 1 nowhere (drop start ls)) a n (arrays pks₀ pws₀) (arrays pks pws)
+  stands-out : (a : Answer ℕ) → within (arrayPlaces parts₀ - n) (partsFrom place depth hole (drop place ls)) ≡ noParts a → Searched (partsFrom start 1 nowhere (drop start ls)) a n parts₀ parts
   stands-out a e =
-      let all : within (placesOf pks₀ pws₀) (partsFrom start 1 nowhere (drop start ls)) ≡ record { found = st .past; answer = a } =
+      let all : within (arrayPlaces parts₀) (partsFrom start 1 nowhere (drop start ls)) ≡ record { found = st .past; answer = a } =
       st .whole ∙ ap (behind (st .past)) e ∙ rw (append-nil (st .past)) in
       record {
         answered = sym (ap (λ (p : Parts). p .answer) all);
         counted = st .counted ∙ sym (ap (λ (p : Parts). length (p .found)) all);
-        listed = same-arrays (st .kinds) (st .words) ∙ sym (ap (λ (p : Parts). holding (p .found) (arrays pks₀ pws₀)) all);
+        listed = st .listed ∙ sym (ap (λ (p : Parts). holding (p .found) parts₀) all);
       }
 
   -- at the list's end
-  pub stands-ended : length ls ≤ place → Searched (partsFrom start 1 nowhere (drop start ls)) (refuse NoString nowhere) n (arrays pks₀ pws₀) (arrays pks pws)
+  pub stands-ended : length ls ≤ place → Searched (partsFrom start 1 nowhere (drop start ls)) (refuse NoString nowhere) n parts₀ parts
   stands-ended past-end = stands-out (refuse NoString nowhere) (rw (drop-of-length-le ls {i = place} past-end))
 
   -- at a lexeme that ends the search
-  pub stands-stopped : (l : Lexeme) → drop place ls ≡ l ∷ drop (suc place) ls → (s : Ending) → orFull (placesOf pks₀ pws₀) n (effect depth hole l) ≡ endingMeant s →
-      Searched (partsFrom start 1 nowhere (drop start ls)) (answerAt place (endingMeant s)) n (arrays pks₀ pws₀) (arrays pks pws)
+  pub stands-stopped : (l : Lexeme) → drop place ls ≡ l ∷ drop (suc place) ls → (s : Ending) → orFull (arrayPlaces parts₀) n (effect depth hole l) ≡ endingMeant s →
+      Searched (partsFrom start 1 nowhere (drop start ls)) (answerAt place (endingMeant s)) n parts₀ parts
   stands-stopped l here s e =
       stands-out (answerAt place (endingMeant s))
-      (ap (λ (r : List Lexeme). within (placesOf pks₀ pws₀ - n) (partsFrom place depth hole r)) here
-      ∙ full-stops (placesOf pks₀ pws₀) n (effect depth hole l) s place (λ d h. partsFrom (suc place) d h (drop (suc place) ls)) e)
+      (ap (λ (r : List Lexeme). within (arrayPlaces parts₀ - n) (partsFrom place depth hole r)) here
+      ∙ full-stops (arrayPlaces parts₀) n (effect depth hole l) s place (λ d h. partsFrom (suc place) d h (drop (suc place) ls)) e)
 
 -- the lexeme at a place of a list, and those after it
-pub next-in : (ks ws : List ℕ) (end place : ℕ) → end ≤ placesOf ks ws → place < end → (l : Lexeme) → l ≡ firstOf (drop place (lexemesIn ks ws)) →
-    drop place (take end (lexemesIn ks ws)) ≡ l ∷ drop (suc place) (take end (lexemesIn ks ws))
-next-in ks ws end place inside before l e =
-    let ls : List Lexeme = take end (lexemesIn ks ws) in
-    let there : place < length ls = omega (arith, length-take end (lexemesIn ks ws), places-length ks ws) in
-    first-drop ls place there ∙ ap (λ (r : Lexeme). r ∷ drop (suc place) ls) (first-taken end (lexemesIn ks ws) place before ∙ sym e)
+pub next-in : (list : Arrays) (end place : ℕ) → end ≤ arrayPlaces list → place < end → (l : Lexeme) → l ≡ firstOf (drop place (contents list)) →
+    drop place (take end (contents list)) ≡ l ∷ drop (suc place) (take end (contents list))
+next-in list end place inside before l e =
+    let ls : List Lexeme = take end (contents list) in
+    let there : place < length ls = omega (arith, length-take end (contents list), places-length (list .kinds) (list .words)) in
+    first-drop ls place there ∙ ap (λ (r : Lexeme). r ∷ drop (suc place) ls) (first-taken end (contents list) place before ∙ sym e)
 
 -- as many lexemes stand before the end as the end says
-pub end-length : (ks ws : List ℕ) (end : ℕ) → end ≤ placesOf ks ws → length (take end (lexemesIn ks ws)) ≡ end
-end-length ks ws end inside = omega (arith, length-take end (lexemesIn ks ws), places-length ks ws)
+pub end-length : (list : Arrays) (end : ℕ) → end ≤ arrayPlaces list → length (take end (contents list)) ≡ end
+end-length list end inside = omega (arith, length-take end (contents list), places-length (list .kinds) (list .words))
 
 -- the lexeme at a place of a list that has so many, and those after it
-pub opener-in : (ks ws : List ℕ) (count place : ℕ) → place < length (take count (lexemesIn ks ws)) → (l : Lexeme) → l ≡ firstOf (drop place (lexemesIn ks ws)) →
-    lexemesFrom (arrays ks ws) count place ≡ l ∷ lexemesFrom (arrays ks ws) count (suc place)
-opener-in ks ws count place before l e =
-    let ls : List Lexeme = take count (lexemesIn ks ws) in
-    let counted : place < count = omega (arith, length-take count (lexemesIn ks ws)) in
-    first-drop ls place before ∙ ap (λ (r : Lexeme). r ∷ drop (suc place) ls) (first-taken count (lexemesIn ks ws) place counted ∙ sym e)
+pub opener-in : (list : Arrays) (count place : ℕ) → place < length (take count (contents list)) → (l : Lexeme) → l ≡ firstOf (drop place (contents list)) →
+    lexemesFrom list count place ≡ l ∷ lexemesFrom list count (suc place)
+opener-in list count place before l e =
+    let ls : List Lexeme = take count (contents list) in
+    let counted : place < count = omega (arith, length-take count (contents list)) in
+    first-drop ls place before ∙ ap (λ (r : Lexeme). r ∷ drop (suc place) ls) (first-taken count (contents list) place counted ∙ sym e)
 
 -- the first of a list are as many as there are
 take-ended : {A : Type 0} (n : ℕ) (xs : List A) → take (length (take n xs)) xs ≡ take n xs
@@ -316,22 +268,22 @@ take-ended (suc n) [] = refl
 take-ended {A} (suc n) (x ∷ xs) = ap (λ (r : List A). x ∷ r) (take-ended n xs)
 
 -- the parts call, by the parts of the string there
-lists-as : (ks ws : List ℕ) (count place : ℕ) (pks pws : List ℕ) (p : Parts) → partsIn (placesOf pks pws) place (lexemesFrom (arrays ks ws) count place) ≡ p →
-    ListsParts (arrays ks ws) count place (arrays pks pws) (p .answer) (length (p .found)) (arrays (kindsWith (p .found) pks) (wordsWith (p .found) pws))
+lists-as : (list : Arrays) (count place : ℕ) (parts : Arrays) (p : Parts) → partsIn (arrayPlaces parts) place (lexemesFrom list count place) ≡ p →
+    ListsParts list count place parts (p .answer) (length (p .found)) (holding (p .found) parts)
 unfolding partsCall
-lists-as ks ws count place pks pws p e =
+lists-as list count place parts p e =
     record {
       answered = sym (ap (λ (q : Parts). q .answer) e);
       counted = sym (ap (λ (q : Parts). length (q .found)) e);
-      listed = sym (ap (λ (q : Parts). holding (q .found) (arrays pks pws)) e);
+      listed = sym (ap (λ (q : Parts). holding (q .found) parts) e);
     }
 
 -- the call where the list has ended
-pub lists-past : (ks ws : List ℕ) (count place : ℕ) (pks pws : List ℕ) → length (take count (lexemesIn ks ws)) ≤ place →
-    ListsParts (arrays ks ws) count place (arrays pks pws) (refuse NoString nowhere) 0 (arrays pks pws)
+pub lists-past : (list : Arrays) (count place : ℕ) (parts : Arrays) → length (take count (contents list)) ≤ place →
+    ListsParts list count place parts (refuse NoString nowhere) 0 parts
 unfolding partsIn partsOf
-lists-past ks ws count place pks pws ended =
-    lists-as ks ws count place pks pws (noParts (refuse NoString nowhere)) (rw (drop-of-length-le (take count (lexemesIn ks ws)) {i = place} ended))
+lists-past list count place parts ended =
+    lists-as list count place parts (noParts (refuse NoString nowhere)) (rw (drop-of-length-le (take count (contents list)) {i = place} ended))
 
 -- an opener that is refused leaves its refusal
 opener-stops : (place : ℕ) (l : Lexeme) (ls : List Lexeme) (s : Ending) → openerEffect l ≡ endingMeant s → partsOf place (l ∷ ls) ≡ noParts (answerAt place (endingMeant s))
@@ -347,11 +299,11 @@ opener-stops place l ls (Refuses n s) e =
     (λ u f. let number : NoString ≡ n = cc in let same : l .at ≡ spanMeant s = cc in rw (t, u, ← number, ← same)))
 
 -- and so does the call
-pub lists-stopped : (ks ws : List ℕ) (count place : ℕ) (pks pws : List ℕ) (l : Lexeme) → lexemesFrom (arrays ks ws) count place ≡ l ∷ lexemesFrom (arrays ks ws) count (suc place) →
-    (s : Ending) → openerEffect l ≡ endingMeant s → ListsParts (arrays ks ws) count place (arrays pks pws) (answerAt place (endingMeant s)) 0 (arrays pks pws)
+pub lists-stopped : (list : Arrays) (count place : ℕ) (parts : Arrays) (l : Lexeme) → lexemesFrom list count place ≡ l ∷ lexemesFrom list count (suc place) →
+    (s : Ending) → openerEffect l ≡ endingMeant s → ListsParts list count place parts (answerAt place (endingMeant s)) 0 parts
 unfolding partsIn
-lists-stopped ks ws count place pks pws l here s e =
-    lists-as ks ws count place pks pws (noParts (answerAt place (endingMeant s))) (rw (here, opener-stops place l (lexemesFrom (arrays ks ws) count (suc place)) s e))
+lists-stopped list count place parts l here s e =
+    lists-as list count place parts (noParts (answerAt place (endingMeant s))) (rw (here, opener-stops place l (lexemesFrom list count (suc place)) s e))
 
 -- after an opener the parts are those from the next place on
 opener-goes : (place : ℕ) (l : Lexeme) (ls : List Lexeme) (m : Progress) → openerEffect l ≡ progressMeant m → partsOf place (l ∷ ls) ≡ partsFrom (suc place) 1 nowhere ls
@@ -363,14 +315,14 @@ opener-goes place l ls (Yields p) e =
     branch (isQuoteOpen (l .kind)) e (λ u f. apart f refl) (λ u f. apart f refl))
 
 -- and the call lists what the search from there finds
-pub lists-searched : (ks ws : List ℕ) (count place : ℕ) (pks pws pks′ pws′ : List ℕ) (l : Lexeme) → lexemesFrom (arrays ks ws) count place ≡ l ∷ lexemesFrom (arrays ks ws) count (suc place) →
+pub lists-searched : (list : Arrays) (count place : ℕ) (parts parts′ : Arrays) (l : Lexeme) → lexemesFrom list count place ≡ l ∷ lexemesFrom list count (suc place) →
     (m : Progress) → openerEffect l ≡ progressMeant m → (a : Answer ℕ) (n : ℕ) →
-    Searched (partsFrom (suc place) 1 nowhere (lexemesFrom (arrays ks ws) (length (take count (lexemesIn ks ws))) (suc place))) a n (arrays pks pws) (arrays pks′ pws′) →
-    ListsParts (arrays ks ws) count place (arrays pks pws) a n (arrays pks′ pws′)
+    Searched (partsFrom (suc place) 1 nowhere (lexemesFrom list (length (take count (contents list))) (suc place))) a n parts parts′ →
+    ListsParts list count place parts a n parts′
 unfolding partsIn
-lists-searched ks ws count place pks pws pks′ pws′ l here m e a n found =
-    let ahead : Parts = partsFrom (suc place) 1 nowhere (lexemesFrom (arrays ks ws) count (suc place)) in
-    let same : partsFrom (suc place) 1 nowhere (lexemesFrom (arrays ks ws) (length (take count (lexemesIn ks ws))) (suc place)) ≡ ahead = rw (take-ended count (lexemesIn ks ws)) in
-    let known : Searched ahead a n (arrays pks pws) (arrays pks′ pws′) = rw same at found in
-    let all : partsIn (placesOf pks pws) place (lexemesFrom (arrays ks ws) count place) ≡ within (placesOf pks pws) ahead = rw (here, opener-goes place l (lexemesFrom (arrays ks ws) count (suc place)) m e) in
-    rw (known .answered, known .counted, known .listed) (lists-as ks ws count place pks pws (within (placesOf pks pws) ahead) all)
+lists-searched list count place parts parts′ l here m e a n found =
+    let ahead : Parts = partsFrom (suc place) 1 nowhere (lexemesFrom list count (suc place)) in
+    let same : partsFrom (suc place) 1 nowhere (lexemesFrom list (length (take count (contents list))) (suc place)) ≡ ahead = rw (take-ended count (contents list)) in
+    let known : Searched ahead a n parts parts′ = rw same at found in
+    let all : partsIn (arrayPlaces parts) place (lexemesFrom list count place) ≡ within (arrayPlaces parts) ahead = rw (here, opener-goes place l (lexemesFrom list count (suc place)) m e) in
+    rw (known .answered, known .counted, known .listed) (lists-as list count place parts (within (arrayPlaces parts) ahead) all)

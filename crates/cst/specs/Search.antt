@@ -2,16 +2,16 @@
 use Prim.Native.Nat.{ℕ, suc, _+_, _≤_, _<_, _^_}
 use mathlib.Core.Path.{_≡_}
 use mathlib.Core.Bool.{false, cond}
-use mathlib.Core.List.{List, [], _∷_, _++_}
 use lib.Dec.{leb}
 use lib.ListN.{length}
 use Rattle.rules.specs.Refusals.{BadSpan, ListFull, NoString}
 use Rattle.rules.specs.Spans.{Span, nowhere, isBad}
 use Rattle.rules.specs.Answers.{Answer as AnswerRule, given, refuse}
 use Rattle.rules.specs.Kinds.{isQuoteOpen}
-use Rattle.rules.specs.Lent.{Lexeme, Arrays, placesOf, arrayPlaces, kindsWith, wordsWith, holding}
+use Rattle.rules.specs.Lent.{Lexeme, Arrays, arrayPlaces, holding}
 use Rattle.rules.specs.Parts.{Effect as EffectRule, closes, refuses, passes, yields, Parts, inRoom}
 use Rattle.source.specs.Meaning.{spanMeant}
+use Rattle.list.specs.Entries.{putIn}
 use Rattle.cst.specs.Meaning.{partMeant}
 use Rattle.cst.specs.declared.Ending.{Ending}
 use Rattle.cst.specs.declared.Ending.the-variants.{Closes, Refuses}
@@ -71,25 +71,17 @@ partsAfter (refuses k s) n = n
 partsAfter (passes d h) n = n
 partsAfter (yields p) n = suc n
 
--- the parts that it completes
-abbrev pub partsBy : EffectRule → List Lexeme
-partsBy closes = []
-partsBy (refuses n s) = []
-partsBy (passes d h) = []
-partsBy (yields p) = p ∷ []
-
--- there is a place for it
-pub record HasRoom (t : EffectRule) (n : ℕ) (pks pws : List ℕ) : Type 0 where
-  pub room : (p : Lexeme) → t ≡ yields p → n < placesOf pks pws
-
-pub record Wrote (t : EffectRule) (n : ℕ) (pks pws pks′ pws′ : List ℕ) : Type 0 where
-  pub kinds : (ps : List Lexeme) → length ps ≡ n → (ks : List ℕ) → pks ≡ kindsWith ps ks → pks′ ≡ kindsWith (ps ++ partsBy t) ks
-  pub words : (ps : List Lexeme) → length ps ≡ n → (ws : List ℕ) → pws ≡ wordsWith ps ws → pws′ ≡ wordsWith (ps ++ partsBy t) ws
+-- the parts list after it: a part that it completes is put at the next place
+abbrev pub partPut : EffectRule → (n : ℕ) → Arrays → Arrays
+partPut closes n parts = parts
+partPut (refuses k s) n parts = parts
+partPut (passes d h) n parts = parts
+partPut (yields p) n parts = putIn n p parts
 
 -- a place of a list, or its end
-pub record Before (start end : ℕ) (ks ws : List ℕ) : Type 0 where
+pub record Before (start end : ℕ) (list : Arrays) : Type 0 where
   pub order : start ≤ end
-  pub inside : end ≤ placesOf ks ws
+  pub inside : end ≤ arrayPlaces list
 
 -- what the search leaves, of the parts that there are with ample room
 pub record Searched (p : Parts) (answer : AnswerRule ℕ) (n : ℕ) (parts parts′ : Arrays) : Type 0 where

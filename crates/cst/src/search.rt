@@ -11,7 +11,7 @@ ghost use mathlib.Core.Bool.{false, cond};
 ghost use Rattle.source.specs.Meaning.{spanMeant};
 ghost use Rattle.list.specs.Entries.{entryMeant};
 ghost use Rattle.cst.specs.Meaning.{partMeant, closerMeant};
-ghost use Rattle.cst.specs.Search.{progressMeant, effectMeant, openMeant, CanCount, openerEffect, orFull, openAfter, partsAfter, answerAt, HasRoom, Wrote, Before, Searched};
+ghost use Rattle.cst.specs.Search.{progressMeant, effectMeant, openMeant, CanCount, openerEffect, orFull, openAfter, partsAfter, answerAt, partPut, Before, Searched};
 use crate::AsPart;
 use crate::Closer;
 use crate::Effect;
@@ -159,8 +159,7 @@ fn opener_effect(entry: Entry) -> Effect
 
 // Writes the part that a lexeme completes, if it does.
 fn write(moved: Progress, parts: usize, pkinds: &mut [u8], pwords: &mut [u64])
-    requires { ⌜ HasRoom (progressMeant moved) parts (now pkinds) (now pwords) ⌝ }
-    ensures { λ _. ⌜ Wrote (progressMeant moved) parts (now (pkinds .entry)) (now (pwords .entry)) (now (pkinds .exit)) (now (pwords .exit)) ⌝ }
+    ensures { λ _. ⌜ arrays (now (pkinds .exit)) (now (pwords .exit)) ≡ partPut (progressMeant moved) parts (arrays (now (pkinds .entry)) (now (pwords .entry))) ⌝ }
 {
     let Progress::Yields(part) = moved else {
         return;
@@ -194,10 +193,10 @@ fn parts_after(moved: Progress, parts: usize) -> usize
 }
 
 // The answer where the search stops at a place.
-fn stopped(turn: Effect, place: usize) -> Closer
-    ensures { λ r. ⌜ closerMeant r ≡ answerAt place (effectMeant turn) ⌝ }
+fn stopped(effect: Effect, place: usize) -> Closer
+    ensures { λ r. ⌜ closerMeant r ≡ answerAt place (effectMeant effect) ⌝ }
 {
-    let Effect::Stops(stop) = turn else {
+    let Effect::Stops(stop) = effect else {
         return Closer::At(place);
     };
     match stop {
@@ -215,7 +214,7 @@ fn search(
     pkinds: &mut [u8],
     pwords: &mut [u64],
 ) -> Parted
-    requires { ⌜ Before start end (now kinds) (now words) ⌝ }
+    requires { ⌜ Before start end (arrays (now kinds) (now words)) ⌝ }
     ensures { λ r. ⌜ Searched (partsFrom start 1 nowhere (lexemesFrom (arrays (now (kinds .entry)) (now (words .entry))) end start)) (closerMeant (r .answer)) (r .parts) (arrays (now (pkinds .entry)) (now (pwords .entry))) (arrays (now (pkinds .exit)) (now (pwords .exit))) ⌝ }
 {
     let room = list::places(pkinds, pwords);
@@ -230,9 +229,9 @@ fn search(
             break Closer::Refused(source::refuse(refusal::NO_STRING, source::nowhere()));
         }
         let entry = list::get(kinds, words, place);
-        let turn = next(opened, parts, entry, room);
-        let Effect::Goes(moved) = turn else {
-            break stopped(turn, place);
+        let effect = next(opened, parts, entry, room);
+        let Effect::Goes(moved) = effect else {
+            break stopped(effect, place);
         };
         write(moved, parts, pkinds, pwords);
         opened = open_after(moved);
@@ -264,10 +263,10 @@ pub fn parts(
         };
     }
     let opener = list::get(kinds, words, place);
-    let turn = opener_effect(opener);
-    let Effect::Goes(_) = turn else {
+    let effect = opener_effect(opener);
+    let Effect::Goes(_) = effect else {
         return Parted {
-            answer: stopped(turn, place),
+            answer: stopped(effect, place),
             parts: 0,
         };
     };

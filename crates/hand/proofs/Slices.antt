@@ -1,7 +1,7 @@
 -- A part of a slice: what the check says of it, and its bytes.
 use Prim.Native.Nat.{ℕ, _-_, _≤_}
 use mathlib.Core.Path.{_≡_, refl, sym}
-use mathlib.Core.Bool.{Bool, true, false, cond, _||_, false≢true}
+use mathlib.Core.Bool.{Bool, true, false, cond, false≢true}
 use mathlib.Core.List.{List, []}
 use borrow.Author.Tests.{leb-true, ltb-false}
 use lib.Dec.{leb, ltb}
@@ -11,7 +11,7 @@ use Rattle.rules.specs.Spans.{Span, span, limit, isBad}
 use Rattle.rules.specs.Answers.{Refusal, Answer, given, refused, refuse, Verdict, accepted, verdictOn}
 use Rattle.rules.specs.Source.{newSpan, resolved}
 use Rattle.rules.specs.Value.{orEmpty}
-use Rattle.rules.proofs.Text.{decide}
+use Rattle.rules.proofs.Text.{decide, or-left}
 use Rattle.hand.specs.Meaning.{partCheck}
 
 -- what is said of a span that was made, or why none was
@@ -47,10 +47,6 @@ part-inside a e n p = decide (isBad (span 0 a e))
     (λ b. decide (leb e n)
     (λ t. (ltb-false e a (or-left (ltb e a) (ltb limit e) b), leb-true e n t))
     (λ t. never (rw (b, t) at p)))
-  where
-    or-left : (x y : Bool) → x || y ≡ false → x ≡ false
-    or-left true y q = q
-    or-left false y q = refl
 
 -- and its bytes are handed out
 pub part-bytes : (s : List ℕ) (a e : ℕ) → partCheck a e (length s) ≡ accepted → orEmpty (resolved s (span 0 a e)) ≡ take (e - a) (drop a s)

@@ -5,10 +5,11 @@ use mathlib.Core.List.{List, [], _∷_, _++_}
 use native.Mathlib.Omega.{arith}
 use lib.ListN.{take, drop, length, length-append, take-append-drop}
 use lib.Seq.{length-take-le, take-append-seam, drop-append-seam}
-use Rattle.rules.specs.Step.{Step, found, stop, step}
+use Rattle.rules.specs.Step.{found, step}
 use Rattle.rules.specs.Lexing.{Taken, taken, ended, stopped, Trace, after, innermost, codesAfter, traceFrom, joined}
 use Rattle.rules.proofs.Bounds.{found-inside}
 use Rattle.rules.proofs.Trace.{trace-found, trace-ended}
+use Rattle.rules.proofs.Steps.{step-cases}
 
 -- steps of a text, where these codes are open before them and nothing is open after them
 abbrev pub Accepted : (openers : List ℕ) → List Taken → Type 0
@@ -21,11 +22,6 @@ Accepted openers (p ∷ ps) =
 -- a refusal is no end of the text
 stopped-ended : {A : Type 0} {number from n : ℕ} → stopped number from n ≡ ended → A
 stopped-ended e = let z : _≡_ {A = ℕ} 0 1 = cc in absurd (omega arith)
-
--- a step, by what it is
-step-cases : {A : Type 0} (r : Step) → ((k n : ℕ) → r ≡ found k n → A) → ((number from n : ℕ) → r ≡ stop number from n → A) → A
-step-cases (found k n) f g = f k n refl
-step-cases (stop number from n) f g = g number from n refl
 
 -- one step more in front of such steps
 accepted-more : (openers : List ℕ) (b : ℕ) (s : List ℕ) (k n : ℕ) (ps : List Taken) →

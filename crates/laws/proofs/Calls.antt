@@ -30,7 +30,7 @@ call-listed : {text : List ℕ} {list stack : Lent} → accepts text ≡ true �
 call-listed {text} {list} {stack} a c =
     let shows = listing-shows text (c .doc) (placesIn list) (placesIn stack) (accepted-short text a) (accepted-whole text a) in
     rw (call-counts c, c .meets .listed)
-    (contents-holding (listing (c .doc) (placesIn list) (placesIn stack) text) (list .arrays) (listing-room text (c .doc) (placesIn list) (placesIn stack)) (shown-words shows))
+    (contents-holding (listing (c .doc) (placesIn list) (placesIn stack) text) (list .arrays) (listing-room text (c .doc) list (placesIn stack)) (shown-words shows))
 
 -- what one lexing call on an accepted text leaves and answers
 pub one-call : (text : List ℕ) → accepts text ≡ true → {list stack : Lent} (c : LexingCall text list stack) → OneCall c

@@ -19,6 +19,7 @@ use Rattle.rules.proofs.Text.{decide, either, is-code}
 use Rattle.rules.proofs.Runs.{run-drop, run-wider}
 use Rattle.rules.proofs.Bounds.{size, giveBack-le, begins-longer}
 use Rattle.laws.proofs.Cuts.{Cut, isAscii, cut-ascii, cut-run, cut-on}
+use Rattle.rules.proofs.Steps.{length-of, refuted}
 
 -- ASCII bytes
 -- if the byte passes the test x, it is ASCII
@@ -108,14 +109,6 @@ asciis-after : (p : ℕ → Bool) → Lows p → (n : ℕ) (s : List ℕ) → n 
 asciis-after p l n s h = omega (arith, asciis-drop n s h, asciis-run p l (drop n s))
 
 -- Steps
--- of one length
-length-of : {a b k n : ℕ} → found a b ≡ found k n → b ≡ n
-length-of e = cc
-
--- a refusal is no lexeme
-refuted : {P : Type 0} {number from l k n : ℕ} → stop number from l ≡ found k n → P
-refuted e = let z : _≡_ {A = ℕ} 0 1 = cc in absurd (omega arith)
-
 -- a lexeme that is found at the front of a UTF-8 text ends between two characters
 record Seam (s : List ℕ) (x : Step) : Type 0 where
   seam : (k n : ℕ) → x ≡ found k n → UTF8-octets s → Cut s n

@@ -12,14 +12,14 @@ use Rattle.rules.specs.Text.{starts, begins, run}
 use Rattle.rules.specs.Bytes.{isWhitespace, isControl, isDigit, isLetter, isPunctuation, isNotLF}
 use Rattle.rules.specs.Kinds.{Blank, Shebang, LineComment, PlainDouble, PlainTriple, FormatDouble, FormatTriple, StringInner, HoleOpen, HoleClose, isSpace, isFormat, isTriple}
 use Rattle.rules.specs.Step.{found, outside, inside, isInner, closesQuote}
-use Rattle.rules.proofs.Text.{branch, starts-append}
+use Rattle.rules.proofs.Text.{branch, starts-append, and-right, and-left}
 use Rattle.rules.proofs.Runs.{run-extended}
 use Rattle.rules.proofs.Bounds.{size}
-use Rattle.laws.proofs.Found.{kind-of, length-of, refuted}
 pub use Rattle.laws.proofs.Lookahead.{endOrWhitespace}
-use Rattle.laws.proofs.Lookahead.{not-true, and-right, and-left, begins-append, begins-replaced, begins-further, begins-whole, run-alone, run-none}
+use Rattle.laws.proofs.Lookahead.{not-true, begins-append, begins-replaced, begins-further, begins-whole, run-alone, run-none}
 use Rattle.laws.proofs.Outside.{isOther, number-other, identifier-other, punctuation-other, whitespace-kind, whitespace-extended, outside-alone, outside-before, outside-shebang, outside-comment, outside-whitespace}
 use Rattle.laws.proofs.Inside.{unicodeDelim-least, unicodeDelim-again, unicode4-least, unicode4-again, singleEscape-least, singleEscape-again, closesQuote-brace, closesQuote-replaced, closesQuote-inner}
+use Rattle.rules.proofs.Steps.{kind-of, length-of, refuted}
 
 -- after a lexeme of a kind outside strings: after a Space or Blank no whitespace; after a comment or shebang the end or LF; after an opening quote of one byte no two quotes; after three, or a hole's closer, anything; after any other the end or whitespace
 unfoldable pub follows : (kind : ℕ) → List ℕ → Bool

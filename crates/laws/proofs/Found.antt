@@ -2,20 +2,8 @@
 use Prim.Native.Nat.{ℕ}
 use mathlib.Core.Path.{_≡_, sym, _∙_}
 use mathlib.Core.Bool.{Bool, true, false, cond, false≢true}
-use native.Mathlib.Omega.{arith}
 use Rattle.rules.specs.Step.{Step, found, stop}
-
--- the same lexeme has the same kind
-pub kind-of : {a b k l : ℕ} → found a b ≡ found k l → a ≡ k
-kind-of e = cc
-
--- and the same length
-pub length-of : {a b k l : ℕ} → found a b ≡ found k l → b ≡ l
-length-of e = cc
-
--- a refusal is no lexeme
-pub refuted : {P : Type 0} {a b c k l : ℕ} → stop a b c ≡ found k l → P
-refuted e = let z : _≡_ {A = ℕ} 0 1 = cc in absurd (omega arith)
+use Rattle.rules.proofs.Steps.{kind-of, length-of, refuted}
 
 -- whatever lexeme a step finds, its kind and length pass a test
 pub record Finds (p : ℕ → ℕ → Bool) (x : Step) : Type 0 where

@@ -15,8 +15,8 @@ use Rattle.rules.specs.Kinds.{isTriple}
 use Rattle.rules.specs.Step.{found, unicodeDelim, unicode4, singleEscape, isInner, closesQuote}
 use Rattle.rules.proofs.Text.{decide, branch}
 use Rattle.rules.proofs.Runs.{run-ended}
-use Rattle.laws.proofs.Found.{length-of, refuted}
 use Rattle.laws.proofs.Lookahead.{begins-alone, begins-replaced, begins-differs, run-alone, run-least, run-longer}
+use Rattle.rules.proofs.Steps.{length-of, refuted}
 
 -- Escapes
 -- `\u{`, hex digits and `}`

@@ -14,7 +14,7 @@ use lib.ListN.{length, getD, List·getD-append}
 use Rattle.rules.specs.Text.{ascii, is, begins, starts, run}
 use Rattle.rules.specs.Bytes.{isWhitespace}
 use Rattle.rules.specs.Step.{giveBack}
-use Rattle.rules.proofs.Text.{decide, either, is-code, is-another}
+use Rattle.rules.proofs.Text.{decide, either, is-code, is-another, and-left, and-right}
 use Rattle.rules.proofs.Runs.{run-extended}
 use Rattle.rules.proofs.Bounds.{size}
 
@@ -32,26 +32,6 @@ not-true false e = refl
 not-not : (b : Bool) → not (not b) ≡ true → b ≡ true
 not-not true e = refl
 not-not false e = e
-
--- of two tests that pass, the first does
-pub and-left : (a b : Bool) → a && b ≡ true → a ≡ true
-and-left true b e = refl
-and-left false b e = e
-
--- of two tests that pass, the second does
-pub and-right : (a b : Bool) → a && b ≡ true → b ≡ true
-and-right true b e = e
-and-right false b e = absurd (false≢true e)
-
--- of two tests of which none passes, the first fails
-pub or-left : (a b : Bool) → a || b ≡ false → a ≡ false
-or-left true b e = e
-or-left false b e = refl
-
--- of two tests of which none passes, the second fails
-pub or-right : (a b : Bool) → a || b ≡ false → b ≡ false
-or-right true b e = absurd (false≢true (sym e))
-or-right false b e = e
 
 -- Quoted texts
 -- a text begins as the first part of it does

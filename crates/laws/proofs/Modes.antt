@@ -10,10 +10,10 @@ use lib.ListN.{drop}
 use Rattle.rules.specs.Kinds.{FormatDouble, FormatTriple, QuoteClose, StringInner, HoleOpen, HoleClose, LParen, RParen, LBracket, RBracket, LBrace, RBrace, isQuoteOpen, isFormat, isEscape, isOpener, isCloser}
 use Rattle.rules.specs.Step.{found, step}
 use Rattle.rules.specs.Lexing.{innermost, openAfter, codesAfter}
-use Rattle.rules.proofs.Text.{decide, either}
+use Rattle.rules.proofs.Text.{decide, either, and-left, and-right, same-truth}
 use Rattle.rules.proofs.Every.{implied}
 use Rattle.rules.proofs.Bounds.{found-kind}
-use Rattle.laws.proofs.StepKinds.{isOfString, mayStand, step-kind, and-left, and-right}
+use Rattle.laws.proofs.StepKinds.{isOfString, mayStand, step-kind}
 
 -- kinds after which the text goes on in a string
 abbrev pub stringAfter : ℕ → Bool
@@ -27,13 +27,6 @@ standsIn k outer = cond (eqb k HoleOpen) (isFormat outer) (not (isQuoteOpen oute
 abbrev pub nested : List ℕ → Bool
 nested [] = true
 nested (k ∷ openers) = standsIn k (innermost openers) && nested openers
-
--- two truth values that compare as equal are
-same-truth : (a b : Bool) → Bool·beq a b ≡ true → a ≡ b
-same-truth true true e = refl
-same-truth true false e = sym e
-same-truth false true e = e
-same-truth false false e = refl
 
 -- an opener: a string goes on after a quote, and after no other opener
 opener-mode : (k : ℕ) → k < 60 → isOpener k ≡ true → isQuoteOpen k ≡ stringAfter k

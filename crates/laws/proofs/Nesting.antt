@@ -1,19 +1,13 @@
 -- How deep lexemes nest: what is open takes a lexeme each to open and, where nothing stays open, a lexeme each to close.
 use Prim.Native.Nat.{ℕ, suc, pred, _+_, _*_, _≤_}
-use mathlib.Core.Path.{_≡_}
 use mathlib.Core.Bool.{Bool, true, false, cond}
 use mathlib.Core.List.{List, [], _∷_}
 use native.Mathlib.Omega.{arith}
-use borrow.Author.Tests.{eqb-true}
 use lib.ListN.{length}
-use Rattle.rules.specs.Kinds.{Space, isSpace, isOpener, isCloser}
+use Rattle.rules.specs.Kinds.{isSpace, isOpener, isCloser}
 use Rattle.rules.specs.Lexing.{Taken, depthAfter, lexemesOf, deepestFrom, openAfterAll}
 use Rattle.rules.proofs.Text.{decide}
-
--- a Space opens and closes nothing
-pub depth-space : (depth k : ℕ) → isSpace k ≡ true → depthAfter depth k ≡ depth
-unfolding isOpener isCloser
-depth-space depth k e = rw (eqb-true k Space e)
+use Rattle.rules.proofs.SpacesAside.{space-depth}
 
 -- a lexeme opens at most one and closes at most one
 pub depth-step : (depth k : ℕ) → (depthAfter depth k ≤ suc depth) × (depth ≤ suc (depthAfter depth k))
@@ -33,7 +27,7 @@ open-left depth [] = omega arith
 open-left depth (p ∷ ps) =
     let more = open-left (depthAfter depth (p .kind)) ps in
     decide (isSpace (p .kind))
-    (λ e. rw e (omega (arith, more, depth-space depth (p .kind) e)))
+    (λ e. rw e (omega (arith, more, space-depth depth (p .kind) e)))
     (λ e. rw e (omega (arith, more, depth-step depth (p .kind))))
 
 -- the deepest nesting, doubled, is at most the lexemes and what is open before and after them
@@ -45,7 +39,7 @@ deepest-twice depth (p ∷ ps) =
     decide (isSpace (p .kind))
     (λ e.
     let here′ : depth ≤ length (lexemesOf ps) + openAfterAll (depthAfter depth (p .kind)) ps = rw e at here in
-    rw e (omega (arith, more, here′, depth-space depth (p .kind) e)))
+    rw e (omega (arith, more, here′, space-depth depth (p .kind) e)))
     (λ e.
     let here′ : depth ≤ suc (length (lexemesOf ps)) + openAfterAll (depthAfter depth (p .kind)) ps = rw e at here in
     rw e (omega (arith, more, here′, depth-step depth (p .kind))))

@@ -12,11 +12,11 @@ use Rattle.rules.specs.Bytes.{isWhitespace, isDigit, isHexDigit, isBinaryDigit}
 use Rattle.rules.specs.Kinds.{NumHexadecimal, NumBinary}
 use Rattle.rules.specs.Refusals.{NoHexDigit, NoBinaryDigit}
 use Rattle.rules.specs.Step.{found, isUnderscore, isDigitOrUnderscore, intLength, exponentMark, exponent, fraction, decimal, prefixed, number}
-use Rattle.rules.proofs.Text.{decide, branch, either}
-use Rattle.rules.proofs.Runs.{run-wider}
-use Rattle.rules.proofs.Bounds.{run-length, run-some, begins-length}
-use Rattle.laws.proofs.Found.{length-of, refuted}
-use Rattle.laws.proofs.Lookahead.{endOrWhitespace, FailsWhitespace, fails-whitespace, begins-alone, or-left, or-right, begins-part, begins-extended, starts-alone, starts-extended, run-alone, run-before}
+use Rattle.rules.proofs.Text.{decide, branch, either, or-left, or-right}
+use Rattle.rules.proofs.Runs.{run-wider, run-le}
+use Rattle.rules.proofs.Bounds.{run-some, begins-length, digit-number}
+use Rattle.laws.proofs.Lookahead.{endOrWhitespace, FailsWhitespace, fails-whitespace, begins-alone, begins-part, begins-extended, starts-alone, starts-extended, run-alone, run-before}
+use Rattle.rules.proofs.Steps.{length-of, refuted}
 
 -- Whitespace is no digit and no `_`
 pub digit-fails : FailsWhitespace isDigit
@@ -32,12 +32,7 @@ underscore-fails = fails-whitespace isUnderscore refl refl refl refl refl
 
 -- a first digit begins a run of digits
 digits-some : (s : List ℕ) → starts isDigit s ≡ true → 0 < run isDigitOrUnderscore s
-unfolding isDigitOrUnderscore
-digits-some s e = run-some isDigitOrUnderscore s (digit s e)
-  where
-    digit : (s : List ℕ) → starts isDigit s ≡ true → starts isDigitOrUnderscore s ≡ true
-    digit [] e = e
-    digit (b ∷ s) e = rw e
+digits-some s e = run-some isDigitOrUnderscore s (digit-number s e)
 
 -- The exponent
 -- the mark has a byte or two
@@ -145,14 +140,14 @@ fraction-extended n w r f = decide (begins "." w)
     (λ u.
     let one : 1 ≤ length w = begins-length "." w u in
     let m = suc (run isDigitOrUnderscore (drop 1 w)) in
-    let inside : m ≤ length w = omega (arith, run-length isDigitOrUnderscore (drop 1 w), length-drop 1 w) in
+    let inside : m ≤ length w = omega (arith, run-le isDigitOrUnderscore (drop 1 w), length-drop 1 w) in
     rw (begins-extended "." w r refl f, drop-append-le 1 w r one, starts-extended isDigit (drop 1 w) r digit-fails f, run-before isDigitOrUnderscore (drop 1 w) r digitOrUnderscore-fails f, drop-append-le m w r inside, exponent-extended (n + m) (drop m w) r f, u))
     (λ u. rw (begins-extended "." w r refl f, u, exponent-extended n w r f))
 
 -- Decimals
 int-length : (s : List ℕ) → intLength s ≤ length s
 unfolding intLength
-int-length s = decide (begins "0" s) (λ e. rw e (begins-length "0" s e)) (λ e. rw e (run-length isDigitOrUnderscore s))
+int-length s = decide (begins "0" s) (λ e. rw e (begins-length "0" s e)) (λ e. rw e (run-le isDigitOrUnderscore s))
 
 int-alone : (w r : List ℕ) → 1 ≤ length w → intLength (w ++ r) ≤ length w → intLength (w ++ r) ≡ intLength w
 unfolding intLength

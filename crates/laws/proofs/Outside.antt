@@ -15,12 +15,13 @@ use Rattle.rules.specs.Text.{is, begins, starts, run, count}
 use Rattle.rules.specs.Bytes.{isWhitespace, isDigit, isLetter, isIdentifierByte, isNotLF}
 use Rattle.rules.specs.Kinds.{Space, Blank, Shebang, LineComment, PlainDouble, PlainTriple, FormatDouble, FormatTriple, HoleOpen, HoleClose, isSpace}
 use Rattle.rules.specs.Step.{Step, found, exponent, fraction, decimal, prefixed, number, identifierLength, keywordOrIdent, identifier, whitespace, closer, monograph, punctuation, outside}
-use Rattle.rules.proofs.Text.{decide, branch, is-code}
-use Rattle.rules.proofs.Runs.{run-extended}
-use Rattle.rules.proofs.Bounds.{size, run-length, giveBack-le}
-use Rattle.laws.proofs.Found.{kind-of, length-of, Finds, finds-found, finds-stop, finds-cond, Again, again-same, again-equal, again-stop, again-fails, again-cond}
-use Rattle.laws.proofs.Lookahead.{endOrWhitespace, noWhitespace, FailsWhitespace, and-left, and-right, fails-whitespace, begins-alone, begins-part, begins-another, begins-differs, begins-extended, starts-another, starts-alone, run-alone, run-over, run-none, run-before, giveBack-alone, giveBack-between}
+use Rattle.rules.proofs.Text.{decide, branch, is-code, and-left, and-right}
+use Rattle.rules.proofs.Runs.{run-extended, run-le}
+use Rattle.rules.proofs.Bounds.{size, giveBack-le}
+use Rattle.laws.proofs.Found.{Finds, finds-found, finds-stop, finds-cond, Again, again-same, again-equal, again-stop, again-fails, again-cond}
+use Rattle.laws.proofs.Lookahead.{endOrWhitespace, noWhitespace, FailsWhitespace, fails-whitespace, begins-alone, begins-part, begins-another, begins-differs, begins-extended, starts-another, starts-alone, run-alone, run-over, run-none, run-before, giveBack-alone, giveBack-between}
 use Rattle.laws.proofs.Numbers.{digit-fails, number-alone, number-extended}
+use Rattle.rules.proofs.Steps.{kind-of, length-of}
 
 -- Identifiers
 -- whitespace is no letter
@@ -36,7 +37,7 @@ identifier-fails = fails-whitespace isIdentifierByte refl refl refl refl refl
 -- an identifier ends in its text
 identifierLength-length : (w : List ℕ) → identifierLength w ≤ length w
 unfolding identifierLength
-identifierLength-length w = omega (arith, giveBack-le w (run isIdentifierByte w), run-length isIdentifierByte w)
+identifierLength-length w = omega (arith, giveBack-le w (run isIdentifierByte w), run-le isIdentifierByte w)
 
 -- where its bytes go on after `w`, only `-` does, and is given back
 identifierLength-alone : (w r : List ℕ) → identifierLength (w ++ r) ≤ length w → identifierLength (w ++ r) ≡ identifierLength w
@@ -44,7 +45,7 @@ unfolding identifierLength
 identifierLength-alone w r h = decide (leb (run isIdentifierByte (w ++ r)) (length w))
     (λ e.
     let same = run-alone isIdentifierByte w r (leb-true (run isIdentifierByte (w ++ r)) (length w) e) in
-    rw same (giveBack-alone w r (run isIdentifierByte w) (run-length isIdentifierByte w)))
+    rw same (giveBack-alone w r (run isIdentifierByte w) (run-le isIdentifierByte w)))
     (λ e.
     let over = leb-false (run isIdentifierByte (w ++ r)) (length w) e in
     let all : run isIdentifierByte w ≡ length w = run-over isIdentifierByte w r (omega arith) in
@@ -52,7 +53,7 @@ identifierLength-alone w r h = decide (leb (run isIdentifierByte (w ++ r)) (leng
 
 identifierLength-extended : (w r : List ℕ) → endOrWhitespace r ≡ true → identifierLength (w ++ r) ≡ identifierLength w
 unfolding identifierLength
-identifierLength-extended w r f = rw (run-before isIdentifierByte w r identifier-fails f) (giveBack-alone w r (run isIdentifierByte w) (run-length isIdentifierByte w))
+identifierLength-extended w r f = rw (run-before isIdentifierByte w r identifier-fails f) (giveBack-alone w r (run isIdentifierByte w) (run-le isIdentifierByte w))
 
 identifier-alone : (w r : List ℕ) (k l : ℕ) → l ≤ length w → identifier (w ++ r) ≡ found k l → identifier w ≡ found k l
 unfolding identifier
@@ -70,11 +71,11 @@ whitespace-alone : (w r : List ℕ) (k l : ℕ) → l ≤ length w → whitespac
 unfolding whitespace
 whitespace-alone w r k l most e =
     let within : run isWhitespace (w ++ r) ≤ length w = omega (arith, length-of e) in
-    rw (run-alone isWhitespace w r within, take-append-le (run isWhitespace w) w r (run-length isWhitespace w)) at e
+    rw (run-alone isWhitespace w r within, take-append-le (run isWhitespace w) w r (run-le isWhitespace w)) at e
 
 pub whitespace-extended : (w r : List ℕ) → starts isWhitespace r ≡ false → whitespace (w ++ r) ≡ whitespace w
 unfolding whitespace
-whitespace-extended w r f = rw (run-extended isWhitespace w r (run-none isWhitespace r f), take-append-le (run isWhitespace w) w r (run-length isWhitespace w))
+whitespace-extended w r f = rw (run-extended isWhitespace w r (run-none isWhitespace r f), take-append-le (run isWhitespace w) w r (run-le isWhitespace w))
 
 -- whitespace is Space or Blank
 pub whitespace-kind : (s : List ℕ) (k l : ℕ) → whitespace s ≡ found k l → (isSpace k || eqb k Blank) ≡ true

@@ -1,7 +1,7 @@
 -- The steps of the re-spaced text: each lexeme is followed by what the same step finds it before, so lexing gives the same lexemes.
 use Prim.Native.Nat.{ℕ, suc, _<_}
 use mathlib.Core.Path.{_≡_, refl, sym, ap, _∙_}
-use mathlib.Core.Bool.{Bool, true, false, cond, not, _&&_, _||_, and-true, false≢true, true≢false}
+use mathlib.Core.Bool.{Bool, true, false, cond, not, _&&_, _||_, and-true, false≢true}
 use mathlib.Core.List.{List, [], _∷_, _++_, append-assoc}
 use native.Mathlib.Omega.{arith}
 use borrow.Author.Tests.{eqb-true, not-true, not-false}
@@ -13,7 +13,7 @@ use Rattle.rules.specs.Kinds.{Space, Blank, Shebang, LineComment, PlainDouble, 
 use Rattle.rules.specs.Step.{found, whitespace, outside, isInner, inside, step}
 use Rattle.rules.specs.Lexing.{Taken, taken, ended, innermost, openAfter, codesAfter, traceFrom, lexemesOf, joined}
 use Rattle.rules.specs.Tidy.{gap, spaced, spacedAfter}
-use Rattle.rules.proofs.Text.{decide, either, is-code, is-another, run-append}
+use Rattle.rules.proofs.Text.{decide, either, is-code, is-another, run-append, neither}
 use Rattle.rules.proofs.Every.{implied}
 use Rattle.rules.proofs.Bounds.{found-kind}
 use Rattle.laws.proofs.Follow.{endOrWhitespace, follows, FollowsInside, outside-follows, inside-follows}
@@ -101,11 +101,6 @@ first-outside openers p ps r q a =
     starts-front isWhitespace (p .bytes) r (joined ps) (a .1)
     ∙ whitespace-first (innermost openers) (p .bytes ++ joined ps) (p .kind) (length (p .bytes)) (step-outside (innermost openers) (p .bytes ++ joined ps) (found (p .kind) (length (p .bytes))) q (a .0))
 
--- neither of two tests passes where their disjunction fails
-or-false : (a b : Bool) → a || b ≡ false → (a ≡ false) × (b ≡ false)
-or-false true b e = absurd (true≢false e)
-or-false false b e = (refl, e)
-
 -- Blank and Space are whitespace
 blank-whitespace : (k : ℕ) → eqb k Blank ≡ true → isBlankOrSpace k ≡ true
 blank-whitespace k e = rw (eqb-true k Blank e) refl
@@ -141,7 +136,7 @@ no-whitespace : (openers : List ℕ) (ps : List Taken) → isQuoteOpen (innermos
 no-whitespace openers [] q a n = refl
 no-whitespace openers (p ∷ ps) q a n =
     let other : isBlankOrSpace (p .kind) ≡ false = sym (first-outside openers p ps (joined ps) q a) ∙ n in
-    rw (next-lexeme Blank p ps (or-false (isSpace (p .kind)) (eqb (p .kind) Blank) other .0), gap-after-blank (p .kind))
+    rw (next-lexeme Blank p ps (neither (isSpace (p .kind)) (eqb (p .kind) Blank) other .0), gap-after-blank (p .kind))
     (first-outside openers p ps (joined (respacedAfter (p .kind) ps)) q a ∙ other)
 
 -- a comment or shebang is no Blank, and no string goes on after it
@@ -152,7 +147,7 @@ line-no-blank k l = either (eqb k Shebang) (eqb k LineComment) l (λ e. rw (eqb-
 gap-line : (k : ℕ) (p : Taken) (ps : List Taken) → isLine k ≡ true → isBlankOrSpace (p .kind) ≡ false → starts isNotLF (joined (respacedAfter k (p ∷ ps))) ≡ false
 unfolding isNotLF
 gap-line k p ps l n =
-    let h = or-false (isSpace (p .kind)) (eqb (p .kind) Blank) n in
+    let h = neither (isSpace (p .kind)) (eqb (p .kind) Blank) n in
     let b = line-no-blank k l in
     rw (next-lexeme k p ps (h .0), gap-byte k (p .kind) (b .0) (h .1) (b .1), l) refl
 
@@ -301,7 +296,7 @@ follows-respaced openers k w ps ne q n a =
     (λ t. rw (other, l, d, t) refl)
     (λ t.
     let z : stringAfter k ≡ false = other-outside k lt o d t in
-    rw (other, l, d, t) (end-or-whitespace (codesAfter openers k) k ps (or-false (isSpace k) (eqb k Blank) other .1) z (m .0 ∙ z) (a .2))))))
+    rw (other, l, d, t) (end-or-whitespace (codesAfter openers k) k ps (neither (isSpace k) (eqb k Blank) other .1) z (m .0 ∙ z) (a .2))))))
 
 -- In a string an inner part ends where its run ends
 run-inner : (quote : ℕ) (w r : List ℕ) → 0 < length w → suc (run (isInner quote) (drop 1 (w ++ r))) ≡ length w → starts (isInner quote) r ≡ false

@@ -87,7 +87,7 @@ same-value text text′ s doc doc′ stack list place parts out at =
     let shows = shows-first text text′ s doc places stack in
     let shows′ = shows-second text text′ s doc′ places stack in
     call-same (list .arrays) place parts out at (shown-like shows shows′)
-    (listing-room text doc places stack) (listing-room text′ doc′ places stack) (shown-words shows) (shown-words shows′)
+    (listing-room text doc list stack) (listing-room text′ doc′ list stack) (shown-words shows) (shown-words shows′)
 
 pub same-answers : (text text′ : List ℕ) → SameLexemes text text′ → SameAnswers text text′
 same-answers text text′ s = record { lexing = same-lexing text text′ s; tidying = same-tidying text text′ s; values = same-value text text′ s }

@@ -11,23 +11,8 @@ use Rattle.rules.specs.Text.{is, begins, starts, run, count}
 use Rattle.rules.specs.Bytes.{isWhitespace, isDigit, isLetter, isNotLF}
 use Rattle.rules.specs.Kinds.{Space, Blank, Shebang, LineComment, QuoteClose, StringInner, HoleOpen, HoleClose, LParen, RParen, LBracket, RBracket, LBrace, RBrace, between, isSpace, isQuoteOpen, isFormat, isTriple}
 use Rattle.rules.specs.Step.{Step, found, stop, exponent, fraction, decimal, prefixed, number, keywordOrIdent, identifier, whitespace, closer, monograph, punctuation, outside, unicodeDelim, unicode4, singleEscape, isInner, closesQuote, inside, step}
-use Rattle.rules.proofs.Text.{decide, branch, either}
-
--- lexemes that are the same have the same kind and the same length
-kind-of : {a b k n : ℕ} → found a b ≡ found k n → a ≡ k
-kind-of e = cc
-
-length-of : {a b k n : ℕ} → found a b ≡ found k n → b ≡ n
-length-of e = cc
-
--- each of two tests passes where their conjunction does
-pub and-left : (a b : Bool) → a && b ≡ true → a ≡ true
-and-left true b e = refl
-and-left false b e = e
-
-pub and-right : (a b : Bool) → a && b ≡ true → b ≡ true
-and-right true b e = e
-and-right false b e = absurd (false≢true e)
+use Rattle.rules.proofs.Text.{decide, branch, either, and-left, and-right}
+use Rattle.rules.proofs.Steps.{kind-of, length-of}
 
 -- a step, if it is no refusal, gives a kind and a length that pass a test
 record Gives (test : (kind length : ℕ) → Bool) (r : Step) : Type 0 where

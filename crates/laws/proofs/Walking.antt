@@ -23,19 +23,13 @@ use Rattle.rules.proofs.Spans.{span-of-words}
 use Rattle.rules.proofs.Bounds.{found-inside}
 use Rattle.rules.proofs.Rfc3629.{first-bad}
 use Rattle.rules.proofs.Arithmetic.{suc-double, suc-double-one}
+use Rattle.rules.proofs.Listed.{places-length}
 use Rattle.rules.proofs.Trace.{open-codes, open-length, trace-found, trace-stopped, trace-ended, trace-long, trace-bad, trace-good, within, within-ends, within-after, within-full-stack}
 use Rattle.laws.specs.Demand3.{deepestIn}
 use Rattle.laws.specs.Walking.{stepFrom, stepOf, ending, WalksAs, WalksText}
 use Rattle.laws.proofs.Lent.{limited-ample}
 
 -- The stack in two arrays
--- the arrays hold as many lexemes as they have places
-lexemes-length : (ks ws : List ℕ) → length (lexemesIn ks ws) ≡ placesOf ks ws
-lexemes-length [] ws = omega arith
-lexemes-length (k ∷ ks) [] = omega arith
-lexemes-length (k ∷ ks) (a ∷ []) = omega arith
-lexemes-length (k ∷ ks) (a ∷ (b ∷ ws)) = omega (arith, lexemes-length ks ws)
-
 -- a lexeme written at a place comes after those before it
 put-take : (ks ws : List ℕ) (n k l h : ℕ) → n < placesOf ks ws →
     take (suc n) (lexemesIn (set ks n k) (set (set ws (n * 2) l) (n * 2 + 1) h)) ≡ take n (lexemesIn ks ws) ++ (lexeme k (spanOf l h) ∷ [])
@@ -59,7 +53,7 @@ open-pop two n room =
     let none-there : Lexeme = lexeme 0 (span 0 0 0) in
     let last : List Lexeme = getD (contents two) n none-there ∷ [] in
     let split : openIn two (suc n) ≡ reverse (take n (contents two) ++ last) =
-    ap (λ (r : List Lexeme). reverse r) (take-suc (contents two) n none-there (rw (lexemes-length (two .kinds) (two .words)) room)) in
+    ap (λ (r : List Lexeme). reverse r) (take-suc (contents two) n none-there (rw (places-length (two .kinds) (two .words)) room)) in
     sym (ap (λ (r : List Lexeme). drop 1 r) (split ∙ reverse-append (take n (contents two)) last))
 
 -- every one of these is an opener

@@ -1,11 +1,12 @@
 -- The rules' order, by the class of the first byte: each class leaves what a sub-lexer answers.
-use Prim.Native.Nat.{ℕ, suc, _≤_}
+use Prim.Native.Nat.{ℕ, suc}
 use Prim.Native.Char.{Char, code}
 use native.Mathlib.Omega.{arith}
 use mathlib.Core.Path.{_≡_, refl, sym, _∙_}
 use mathlib.Core.List.{List, [], _∷_}
 use mathlib.Core.Bool.{Bool, true, false, cond, _&&_, _||_, and-true, true≢false}
-use lib.Dec.{T, leb, ltb, eqb, leb→le, eqb→eq, eqb-refl}
+use lib.Dec.{T, leb, ltb, eqb, eqb-refl}
+use borrow.Author.Tests.{eqb-true, leb-true}
 use lib.ListN.{drop}
 use Rattle.rules.specs.Text.{is, begins, run}
 use Rattle.rules.specs.Bytes.{isWhitespace, isControl, isDigit, isLetter, isPunctuation, isOver127, isIdentifierByte, classOf, Whitespace, Control, Digit, Letter, Punctuation, Over127}
@@ -14,28 +15,15 @@ use Rattle.rules.specs.Kinds.{FormatDouble, FormatTriple}
 use Rattle.rules.specs.Step.{Step, found, stop, number, identifier, identifierLength, whitespace, outside}
 use Rattle.sublexers.specs.Words.{identifierBy}
 use Rattle.sublexers.specs.ByClass.{letteredBy, punctuated}
+use Rattle.rules.proofs.Text.{decide, either, is-code}
 
 -- Tests, by their value
-decide : {P : Type 0} (t : Bool) → (t ≡ true → P) → (t ≡ false → P) → P
-decide true f g = f refl
-decide false f g = g refl
-
 or-cases : {P : Type 0} (a b : Bool) → (a ≡ true → P) → (b ≡ true → P) → a || b ≡ true → P
-or-cases true b f g e = f refl
-or-cases false b f g e = g e
+or-cases a b f g e = either a b e f g
 
 true-of : (t : Bool) → T t → t ≡ true
 true-of true h = refl
 true-of false h = absurd h
-
-eq-of : (m n : ℕ) → eqb m n ≡ true → m ≡ n
-eq-of m n e = eqb→eq m n (rw e tt)
-
-is-of : (c : Char) (b : ℕ) → is c b ≡ true → b ≡ code c
-is-of c b e = eq-of b (code c) e
-
-le-of : (m n : ℕ) → leb m n ≡ true → m ≤ n
-le-of m n e = leb→le m n (rw e tt)
 
 -- a branch that gives another number is not the one that was taken
 past : (t : Bool) (k x n : ℕ) → eqb k n ≡ false → cond t k x ≡ n → (t ≡ false) × (x ≡ n)
@@ -45,7 +33,7 @@ past false k x n d e = (refl, e)
 -- and one is, if the others give more
 taken : (t : Bool) (k x : ℕ) → ltb k x ≡ true → cond t k x ≡ k → t ≡ true
 taken true k x h e = refl
-taken false k x h e = absurd (omega (arith, le-of (suc k) x h))
+taken false k x h e = absurd (omega (arith, leb-true (suc k) x h))
 
 more : (t : Bool) (k x y : ℕ) → ltb k x ≡ true → ltb k y ≡ true → ltb k (cond t x y) ≡ true
 more true k x y p q = p
@@ -59,7 +47,7 @@ classes = classOf
 -- a byte is no character of another class
 other-class : (c : Char) (b k : ℕ) → eqb (classOf (code c)) k ≡ false → classOf b ≡ k → is c b ≡ false
 other-class c b k d e = decide (is c b)
-    (λ t. let f : classOf (code c) ≡ k = rw (is-of c b t) at e in absurd (true≢false (sym (true-of (eqb k k) (eqb-refl k)) ∙ (rw f at d))))
+    (λ t. let f : classOf (code c) ≡ k = rw (is-code c b t) at e in absurd (true≢false (sym (true-of (eqb k k) (eqb-refl k)) ∙ (rw f at d))))
     (λ t. t)
 
 -- the punctuation that begins more than itself
@@ -85,13 +73,13 @@ whitespace-alone b =
     (or-cases (is " " b || is "\t" b || is "\n" b) (eqb b 0x0C)
     (or-cases (is " " b || is "\t" b) (is "\n" b)
     (or-cases (is " " b) (is "\t" b)
-    (λ t. rw (is-of " " b t) (refl, refl)) (λ t. rw (is-of "\t" b t) (refl, refl))) (λ t. rw (is-of "\n" b t) (refl, refl))) (λ t. rw (eq-of b 0x0C t) (refl, refl))) (λ t. rw (is-of "\r" b t) (refl, refl))
+    (λ t. rw (is-code " " b t) (refl, refl)) (λ t. rw (is-code "\t" b t) (refl, refl))) (λ t. rw (is-code "\n" b t) (refl, refl))) (λ t. rw (eqb-true b 0x0C t) (refl, refl))) (λ t. rw (is-code "\r" b t) (refl, refl))
 
 under-32 : (c : Char) (b : ℕ) → leb 32 (code c) ≡ true → ltb b 32 ≡ true → leb (code c) b ≡ false
-under-32 c b h t = decide (leb (code c) b) (λ f. absurd (omega (arith, le-of 32 (code c) h, le-of (suc b) 32 t, le-of (code c) b f))) (λ f. f)
+under-32 c b h t = decide (leb (code c) b) (λ f. absurd (omega (arith, leb-true 32 (code c) h, leb-true (suc b) 32 t, leb-true (code c) b f))) (λ f. f)
 
 not-under-32 : (c : Char) (b : ℕ) → leb 32 (code c) ≡ true → ltb b 32 ≡ true → is c b ≡ false
-not-under-32 c b h t = decide (is c b) (λ f. absurd (omega (arith, le-of 32 (code c) h, le-of (suc b) 32 t, is-of c b f))) (λ f. f)
+not-under-32 c b h t = decide (is c b) (λ f. absurd (omega (arith, leb-true 32 (code c) h, leb-true (suc b) 32 t, is-code c b f))) (λ f. f)
 
 control-alone : (b : ℕ) → isControl b ≡ true → (isDigit b ≡ false) × (isLetter b ≡ false) × (isPunctuation b ≡ false)
 unfolding classes
@@ -101,7 +89,7 @@ control-alone b = or-cases (ltb b 0x20) (eqb b 0x7F)
       rw (under-32 "a" b refl t, under-32 "A" b refl t, not-under-32 "_" b refl t),
       rw (under-32 "!" b refl t, under-32 ":" b refl t, under-32 "[" b refl t, under-32 "{" b refl t),
     ))
-    (λ t. rw (eq-of b 0x7F t) (refl, refl, refl))
+    (λ t. rw (eqb-true b 0x7F t) (refl, refl, refl))
 
 pub at-whitespace : (i b : ℕ) (s : List ℕ) → classOf b ≡ Whitespace → outside i (b ∷ s) ≡ whitespace (b ∷ s)
 unfolding classOf outside

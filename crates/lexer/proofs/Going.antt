@@ -1,33 +1,23 @@
--- Laws of steps one after the other (`Goes`). The last three are for runs that nobody makes yet: a text that goes on in another's list, a run that ends at a kind, and one without a list.
-use Prim.Native.Nat.{ℕ, _+_, _-_, _*_, _≤_, _<_}
+-- Laws of steps one after the other (`Goes`). The last four are for runs that nobody makes yet: a text that goes on in another's list, a run that ends at a kind, and one without a list.
+use Prim.Native.Nat.{ℕ, _+_, _-_, _≤_, _<_, _^_}
 use mathlib.Core.Path.{_≡_, refl, sym, ap, _∙_}
 use mathlib.Core.List.{List, [], _∷_, _++_}
-use mathlib.Core.Bool.{Bool, true, false, cond, not, false≢true}
+use mathlib.Core.Bool.{Bool, true, false, not}
 use native.Mathlib.Nat.{zero-add, suc-add, add-assoc}
 use native.Mathlib.Omega.{arith}
-use lib.Dec.{ltb}
-use lib.ListN.{length, drop, set, length-drop}
-use borrow.Author.Tests.{lt-ltb}
-use Rattle.rules.specs.Spans.{low, high}
+use lib.ListN.{length, drop, length-drop}
 use Rattle.rules.specs.Kinds.{isSpace, isOpener}
-use Rattle.rules.specs.Lent.{Lexeme, placesOf}
+use Rattle.rules.specs.Lent.{Lexeme, Arrays, Lent, lent}
 use Rattle.rules.specs.Lexing.{depthAfter}
 use Rattle.rules.proofs.Bounds.{found-inside}
 use Rattle.rules.proofs.Text.{decide}
-use Rattle.list.specs.Entries.{PutAt}
+use Rattle.rules.proofs.Lent.{AsLong}
+use Rattle.list.specs.Entries.{putIn}
+use Rattle.list.proofs.Entries.{put-in-long}
 use Rattle.lexer.specs.declared.Cursor.{Cursor}
 use Rattle.lexer.specs.Cursor.{advanceOf, noRoomOf}
-use Rattle.lexer.specs.Going.{State, stateAt, Course, innermostIn, lexemeIn, PutIf, Steps, Goes, stay, on}
-use Rattle.lexer.proofs.Standing.{kinds-as-long, words-as-long, space-depth}
-
--- two words about tests
-pub cond-not : {A : Type 0} (b : Bool) (x y : A) → cond (not b) x y ≡ cond b y x
-cond-not true x y = refl
-cond-not false x y = refl
-
-pub not-true : (b : Bool) → not b ≡ true → b ≡ false
-not-true true e = absurd (false≢true e)
-not-true false e = refl
+use Rattle.lexer.specs.Going.{State, stateAt, stackCodes, Course, roomOf, innermostIn, lexemeIn, putIf, Steps, Goes, stay, on}
+use Rattle.rules.proofs.SpacesAside.{space-depth}
 
 -- the cursor after a step
 pub advance-at : (c : Cursor) (k e : ℕ) → advanceOf c k e .at ≡ e
@@ -38,54 +28,43 @@ pub advance-depth : (c : Cursor) (k e : ℕ) → advanceOf c k e .depth ≡ dept
 unfolding advanceOf
 advance-depth c k e = decide (isSpace k) (λ b. rw (advanceOf, b) (sym (space-depth (c .depth) k b))) (λ b. rw (advanceOf, b))
 
--- the arrays after a lexeme for which there is a place
-pub put-set : (b : Bool) {place : ℕ} {l : Lexeme} {ks ws ks′ ws′ : List ℕ} → (b ≡ true → place < placesOf ks ws) → PutIf b place l ks ws ks′ ws′ →
-    (ks′ ≡ cond b (set ks place (l .kind)) ks) × (ws′ ≡ cond b (set (set ws (place * 2) (low (l .at))) (place * 2 + 1) (high (l .at))) ws)
-put-set true {place} {l} {ks} {ws} fits p =
-    let y : ltb place (placesOf ks ws) ≡ true = lt-ltb place (placesOf ks ws) (fits refl) in
-    (p .put refl .kinds ∙ rw y, p .put refl .words ∙ rw y)
-put-set false fits p = p .kept refl
+-- a lexeme that is put, and one that is not
+pub put-yes : (place : ℕ) (l : Lexeme) (m : Lent) {m′ : Lent} {b : Bool} → b ≡ true → m′ .arrays ≡ putIn place l (m .arrays) → m′ ≡ putIf b place l m
+put-yes place l m e put = rw e (ap (λ (a : Arrays). lent (a .kinds) (a .words)) put)
 
-pub put-yes : {b : Bool} {place : ℕ} {l : Lexeme} {ks ws ks′ ws′ : List ℕ} → b ≡ true → PutAt place l ks ws ks′ ws′ → PutIf b place l ks ws ks′ ws′
-put-yes e p = record { put = λ t. p; kept = λ f. absurd (false≢true (sym f ∙ e)) }
-
-pub put-no : {b : Bool} {place : ℕ} {l : Lexeme} {ks ws : List ℕ} → b ≡ false → PutIf b place l ks ws ks ws
-put-no e = record { put = λ t. absurd (false≢true (sym e ∙ t)); kept = λ f. (refl, refl) }
+pub put-no : (place : ℕ) (l : Lexeme) (m : Lent) {b : Bool} → b ≡ false → m ≡ putIf b place l m
+put-no place l m e = rw e
 
 -- no array gets longer or shorter
 pub record Long (s t : State) : Type 0 where
-  pub kinds : length (t .ks) ≡ length (s .ks)
-  pub words : length (t .ws) ≡ length (s .ws)
-  pub stackKinds : length (t .sk) ≡ length (s .sk)
-  pub stackWords : length (t .sw) ≡ length (s .sw)
+  pub list : AsLong (s .list .arrays) (t .list .arrays)
+  pub stack : AsLong (s .stack .arrays) (t .stack .arrays)
 
-pub list-places : {s t : State} → Long s t → placesOf (t .ks) (t .ws) ≡ placesOf (s .ks) (s .ws)
-list-places l = rw (l .kinds, l .words)
+as-long : (a : Arrays) → AsLong a a
+as-long a = record { kinds = refl; words = refl }
 
-pub stack-places : {s t : State} → Long s t → placesOf (t .sk) (t .sw) ≡ placesOf (s .sk) (s .sw)
-stack-places l = rw (l .stackKinds, l .stackWords)
+long-more : {a b d : Arrays} → AsLong a b → AsLong b d → AsLong a d
+long-more i j = record { kinds = j .kinds ∙ i .kinds; words = j .words ∙ i .words }
 
-put-long : (b : Bool) {place : ℕ} {l : Lexeme} {ks ws ks′ ws′ : List ℕ} → PutIf b place l ks ws ks′ ws′ → (length ks′ ≡ length ks) × (length ws′ ≡ length ws)
-put-long true {place} {l} {ks} {ws} p = (
-  ap length (p .put refl .kinds) ∙ kinds-as-long (ltb place (placesOf ks ws)) place (l .kind) ks,
-  ap length (p .put refl .words) ∙ words-as-long (ltb place (placesOf ks ws)) place (low (l .at)) (high (l .at)) ws,
-)
-put-long false p = (ap length (p .kept refl .0), ap length (p .kept refl .1))
+put-long : (b : Bool) (place : ℕ) (l : Lexeme) (m : Lent) {m′ : Lent} → m′ ≡ putIf b place l m → AsLong (m .arrays) (m′ .arrays)
+put-long true place l m e = rw e (put-in-long place l (m .arrays))
+put-long false place l m e = rw e (as-long (m .arrays))
 
 module _ {w : Course} {from : State} where
   pub goes-long : (t : State) → Goes w from t → Long from t
-  goes-long _ stay = record { kinds = refl; words = refl; stackKinds = refl; stackWords = refl }
+  goes-long _ stay = record { list = as-long (from .list .arrays); stack = as-long (from .stack .arrays) }
   goes-long _ (on s t g x) =
       let i : Long from s = goes-long s g in
-      let l = put-long (not (isSpace (t .kind))) (x .list) in
-      let p = put-long (isOpener (t .kind)) (x .stack) in
-      record { kinds = l .0 ∙ i .kinds; words = l .1 ∙ i .words; stackKinds = p .0 ∙ i .stackKinds; stackWords = p .1 ∙ i .stackWords }
+      record {
+        list = long-more (i .list) (put-long (not (isSpace (t .kind))) (s .cur .lexemes) _ (s .list) (x .list));
+        stack = long-more (i .stack) (put-long (isOpener (t .kind)) (s .cur .depth) _ (s .stack) (x .stack));
+      }
 
 -- a step takes at least one byte
 steps-forward : {w : Course} {s t : State} → w .stop ≤ length (w .text) → Steps w s t → s .cur .at < t .cur .at
 steps-forward {w} {s} {t} l x =
     let b : s .cur .at < w .stop = x .before in
-    let i = found-inside (innermostIn (s .cur .depth) (s .sk)) (drop (s .cur .at) (w .text)) (t .kind) (x .size) (omega (arith, length-drop (s .cur .at) (w .text))) (x .is) in
+    let i = found-inside (innermostIn (s .cur .depth) (stackCodes s)) (drop (s .cur .at) (w .text)) (t .kind) (x .size) (omega (arith, length-drop (s .cur .at) (w .text))) (x .is) in
     omega (arith, ap (λ (c : Cursor). c .at) (x .cursor) ∙ advance-at (s .cur) (t .kind) (s .cur .at + x .size), i .0)
 
 module _ {w : Course} {from : State} (l : w .stop ≤ length (w .text)) where
@@ -114,7 +93,7 @@ abbrev pub movedBy : (n : ℕ) → Cursor → Cursor
 movedBy n c = record { at = n + c .at; depth = c .depth; lexemes = c .lexemes; spaces = c .spaces; dropped = c .dropped; deepest = c .deepest }
 
 abbrev pub moved : (n : ℕ) → State → State
-moved n s = stateAt (movedBy n (s .cur)) (s .kind) (s .ks) (s .ws) (s .sk) (s .sw)
+moved n s = stateAt (movedBy n (s .cur)) (s .kind) (s .list) (s .stack)
 
 -- the course through the joined text, which itself is moved by `m`
 abbrev pub behind : (m : ℕ) (first : List ℕ) → Course → Course
@@ -169,33 +148,35 @@ goes-unended _ (on s t g x) =
     on s t (goes-unended s g) (record { before = x .before; going = refl; size = x .size; is = x .is; room = x .room; cursor = x .cursor; list = x .list; stack = x .stack })
 
 -- A run takes the same steps with any other list, or with none.
-abbrev kindsIf : Bool → (place : ℕ) → Lexeme → (ks ws : List ℕ) → List ℕ
-kindsIf b place l ks ws = cond b (cond (ltb place (placesOf ks ws)) (set ks place (l .kind)) ks) ks
+abbrev pub withList : State → Lent → State
+withList s list = stateAt (s .cur) (s .kind) list (s .stack)
 
-abbrev wordsIf : Bool → (place : ℕ) → Lexeme → (ks ws : List ℕ) → List ℕ
-wordsIf b place l ks ws = cond b (cond (ltb place (placesOf ks ws)) (set (set ws (place * 2) (low (l .at))) (place * 2 + 1) (high (l .at))) ws) ws
+pub record Relisted (w : Course) (from : State) (list : Lent) (t : State) : Type 0 where
+  pub list′ : Lent
+  pub goes : Goes w (withList from list) (withList t list′)
 
-put-if : (b : Bool) (place : ℕ) (l : Lexeme) (ks ws : List ℕ) → PutIf b place l ks ws (kindsIf b place l ks ws) (wordsIf b place l ks ws)
-put-if true place l ks ws = put-yes refl (record { kinds = refl; words = refl })
-put-if false place l ks ws = put-no refl
-
-abbrev pub withList : State → (ks ws : List ℕ) → State
-withList s ks ws = stateAt (s .cur) (s .kind) ks ws (s .sk) (s .sw)
-
-pub record Relisted (w : Course) (from : State) (ks ws : List ℕ) (t : State) : Type 0 where
-  pub kinds : List ℕ
-  pub words : List ℕ
-  pub goes : Goes w (withList from ks ws) (withList t kinds words)
-
-pub goes-relisted : {w : Course} {from : State} (ks ws : List ℕ) (t : State) → Goes w from t → Relisted w from ks ws t
-goes-relisted ks ws _ stay = record { kinds = ks; words = ws; goes = stay }
-goes-relisted {w} ks ws _ (on s t g x) =
-    let r = goes-relisted ks ws s g in
-    let b : Bool = not (isSpace (t .kind)) in
-    let l : Lexeme = lexemeIn w (t .kind) (s .cur .at) (s .cur .at + x .size) in
+pub goes-relisted : {w : Course} {from : State} (list : Lent) (t : State) → Goes w from t → Relisted w from list t
+goes-relisted list _ stay = record { list′ = list; goes = stay }
+goes-relisted {w} list _ (on s t g x) =
+    let r = goes-relisted list s g in
+    let next : Lent = putIf (not (isSpace (t .kind))) (s .cur .lexemes) (lexemeIn w (t .kind) (s .cur .at) (s .cur .at + x .size)) (r .list′) in
     record {
-      kinds = kindsIf b (s .cur .lexemes) l (r .kinds) (r .words);
-      words = wordsIf b (s .cur .lexemes) l (r .kinds) (r .words);
-      goes = on (withList s (r .kinds) (r .words)) (withList t (kindsIf b (s .cur .lexemes) l (r .kinds) (r .words)) (wordsIf b (s .cur .lexemes) l (r .kinds) (r .words))) (r .goes)
-          (record { before = x .before; going = x .going; size = x .size; is = x .is; room = x .room; cursor = x .cursor; list = put-if b (s .cur .lexemes) l (r .kinds) (r .words); stack = x .stack });
+      list′ = next;
+      goes = on (withList s (r .list′)) (withList t next) (r .goes)
+          (record { before = x .before; going = x .going; size = x .size; is = x .is; room = x .room; cursor = x .cursor; list = refl; stack = x .stack });
     }
+
+-- A run without a list always has a place for one lexeme more, so it never gives 31: each step takes a byte or more, and no text has so many.
+advance-steps : (c : Cursor) (k e : ℕ) → advanceOf c k e .lexemes + advanceOf c k e .spaces ≡ c .lexemes + c .spaces + 1
+unfolding advanceOf
+advance-steps c k e = decide (isSpace k) (λ b. rw (advanceOf, b) (omega arith)) (λ b. rw (advanceOf, b) (omega arith))
+
+module _ {w : Course} {from : State} (before : w .stop ≤ length (w .text)) (first : from .cur .lexemes + from .cur .spaces ≤ w .shift + from .cur .at) where
+  goes-counted : (t : State) → Goes w from t → t .cur .lexemes + t .cur .spaces ≤ w .shift + t .cur .at
+  goes-counted _ stay = first
+  goes-counted _ (on s t g x) =
+      let steps : t .cur .lexemes + t .cur .spaces ≡ s .cur .lexemes + s .cur .spaces + 1 = rw (x .cursor) (advance-steps (s .cur) (t .kind) (s .cur .at + x .size)) in
+      omega (arith, goes-counted s g, steps-forward before x)
+
+  pub room-unlisted : w .shift + length (w .text) < 2 ^ 48 → (list : Lent) → w .places ≡ roomOf false list → (t : State) → Goes w from t → t .cur .at < w .stop → t .cur .lexemes < w .places
+  room-unlisted small list unlisted t g going = omega (arith, goes-counted t g)

@@ -11,13 +11,13 @@ use borrow.Author.Tests.{eqb-true, eqb-false, lt-leb, ltb-true, ltb-false}
 use native.Mathlib.Nat.{add-zero, zero-add}
 use Rattle.rules.specs.Utf8.{firstBad}
 use Rattle.rules.specs.Refusals.{NotUtf8, TooLong, AnotherDue, UnclosedBracket, UnclosedHole, UnclosedString, UnclosedFormat, StackFull, ListFull}
-use Rattle.rules.specs.Spans.{span, low, high, limit}
+use Rattle.rules.specs.Spans.{span, limit}
 use Rattle.rules.specs.Answers.{accepted, refused}
 use Rattle.rules.specs.Kinds.{HoleOpen, Nothing, between, isSpace, isQuoteOpen, isFormat, isOpener}
 use Rattle.rules.specs.Step.{Step as StepRule, found, stop, step}
-use Rattle.rules.specs.Lent.{Lexeme, placesOf, lent}
+use Rattle.rules.specs.Lent.{Lexeme, lexeme, Lent, placesIn}
 use Rattle.rules.specs.Lexing.{End, stopped, ends, innermost, unclosed, atEnd, noteOf, verdictOf, Lexed as LexedRule, lexedOf, traceIn, listing, lexing, Lexes}
-use Rattle.rules.proofs.Listed.{same-lent}
+use Rattle.rules.proofs.Lent.{all-untouched}
 use Rattle.rules.proofs.Bounds.{found-inside, stop-inside, stop-number}
 use Rattle.rules.proofs.Rfc3629.{first-bad}
 use Rattle.rules.proofs.Text.{decide}
@@ -31,10 +31,10 @@ use Rattle.lexer.specs.declared.Lexed.{Lexed}
 use Rattle.sublexers.specs.declared.Step.{Step}
 use Rattle.sublexers.specs.declared.Step.the-variants.{Refused}
 use Rattle.lexer.specs.Cursor.{start, advanceOf, noRoomOf}
-use Rattle.lexer.specs.Going.{innermostIn}
+use Rattle.lexer.specs.Going.{innermostIn, putIf}
 use Rattle.sublexers.specs.Outcome.{lexemeTo, refusedAt, outcome, stepMeant, innermostOf}
 use Rattle.lexer.specs.Results.{lexedMeant, countedAt, noteAt, refusedWith, verdictAt, CanReport, CanStop, CanFinish}
-use Rattle.lexer.proofs.Standing.{Standing, opened, codes, kindsAfter, wordsAfter, stackKindsAfter, stackWordsAfter, bounds, standing-on, top-code, top-none, top-opener, note-some, note-none, note-other, answer, listed, standing-end, standing-stop, standing-full}
+use Rattle.lexer.proofs.Standing.{Standing, opened, codes, bounds, standing-on, top-code, top-none, top-opener, note-some, note-none, note-other, answer, listing-here, standing-end, standing-stop, standing-full}
 
 -- what an outcome says of the step
 pub outcome-found : (at k e : ℕ) (r : StepRule) → lexemeTo k e ≡ outcome at r → (n : ℕ) × (r ≡ found k n) × (e ≡ at + n)
@@ -104,16 +104,9 @@ full-unnoted stack places c k number e = rw e (pick (isOpener k && leb stack (c 
     pick false true = refl
     pick false false = refl
 
--- the arrays after a lexeme: the list has it unless it is a Space, the stack if it opens
-pub record Wrote (doc : ℕ) (c : Cursor) (kind end : ℕ) (ks ws sk sw ks′ ws′ sk′ sw′ : List ℕ) : Type 0 where
-  pub kinds : ks′ ≡ kindsAfter c kind ks
-  pub words : ws′ ≡ wordsAfter c kind (low (span doc (c .at) end)) (high (span doc (c .at) end)) ws
-  pub stackKinds : sk′ ≡ stackKindsAfter c kind sk
-  pub stackWords : sw′ ≡ stackWordsAfter c kind (low (span doc (c .at) end)) (high (span doc (c .at) end)) sw
-
-module _ {doc : ℕ} {text ks₀ ws₀ sk₀ sw₀ ks ws sk sw : List ℕ} {c : Cursor} (s : Standing doc text ks₀ ws₀ sk₀ sw₀ ks ws sk sw c) where
+module _ {doc : ℕ} {text : List ℕ} {list₀ stack₀ list stack : Lent} {c : Cursor} (s : Standing doc text list₀ stack₀ list stack c) where
   -- the innermost code of the stack is that of the steps behind
-  pub standing-innermost : innermostIn (c .depth) sk ≡ innermost (codes doc (s .past))
+  pub standing-innermost : innermostIn (c .depth) (stack .arrays .kinds) ≡ innermost (codes doc (s .past))
   standing-innermost = decide (eqb (c .depth) 0)
       (λ z. rw z (sym (top-none s (eqb-true (c .depth) 0 z))))
       (λ z.
@@ -121,18 +114,18 @@ module _ {doc : ℕ} {text ks₀ ws₀ sk₀ sw₀ ks ws sk sw : List ℕ} {c : 
       rw (z, top-opener s deep) (top-code s deep))
 
   -- a way out: the trace ends here, and the result says so
-  pub way-out : (e : End) (r : Lexed) → traceIn (placesOf ks₀ ws₀) (placesOf sk₀ sw₀) text ≡ record { taken = s .past; end = e } →
-      lexedMeant r ≡ countedAt (verdictOf doc (c .at) (opened doc (s .past)) e) c → Lexes doc text (lent ks₀ ws₀) (lent sk₀ sw₀) (lexedMeant r) (lent ks ws) (lent sk sw)
+  pub way-out : (e : End) (r : Lexed) → traceIn (placesIn list₀) (placesIn stack₀) text ≡ record { taken = s .past; end = e } →
+      lexedMeant r ≡ countedAt (verdictOf doc (c .at) (opened doc (s .past)) e) c → Lexes doc text list₀ stack₀ (lexedMeant r) list stack
   way-out e r q v =
       let d : r .deepest ≡ c .deepest = ap (λ (l : LexedRule). l .deepest) v in
       record {
         result = v ∙ sym (answer s e q);
-        listed = same-lent (rw (listed s e q) (s .kinds)) (rw (listed s e q) (s .words));
-        stacked = record { kinds = rw d (s .stackKinds); words = rw d (s .stackWords); kindsLength = s .stackKindsLength; wordsLength = s .stackWordsLength };
+        listed = rw (listing-here s e q) (s .listed);
+        stacked = rw d (s .untouched);
       }
 
   -- the note that the code gives is the rules'
-  note-agrees : (number : ℕ) → between AnotherDue UnclosedFormat number ≡ eqb number AnotherDue → noteAt number (c .depth) sw ≡ noteOf number (opened doc (s .past))
+  note-agrees : (number : ℕ) → between AnotherDue UnclosedFormat number ≡ eqb number AnotherDue → noteAt number (c .depth) (stack .arrays .words) ≡ noteOf number (opened doc (s .past))
   note-agrees number e = decide (eqb number AnotherDue)
       (λ y. decide (ltb 0 (c .depth))
       (λ d. rw (y, d) (sym (note-some s number (ltb-true 0 (c .depth) d) (e ∙ y))))
@@ -143,31 +136,31 @@ module _ {doc : ℕ} {text ks₀ ws₀ sk₀ sw₀ ks ws sk sw : List ℕ} {c : 
   can-report = record { steps = (bounds s) .steps; dropped = (bounds s) .dropped }
 
   -- the openers that are open lie in the stack's arrays
-  pub can-finish : CanFinish c sk sw
+  pub can-finish : CanFinish c (stack .arrays .kinds) (stack .arrays .words)
   can-finish = record {
     at = omega (arith, s .inside, s .small);
-    stackKinds = omega (arith, s .shallow, s .stackKindsLength);
-    stackWords = omega (arith, s .shallow, s .stackWordsLength);
+    stackKinds = omega (arith, s .shallow, s .untouched .kindsLength);
+    stackWords = omega (arith, s .shallow, s .untouched .wordsLength);
     counts = can-report;
   }
 
-  pub can-stop : (f : Fault) → (f .start < 2 ^ 48) × (f .end < 2 ^ 48) → CanStop f c sw
+  pub can-stop : (f : Fault) → (f .start < 2 ^ 48) × (f .end < 2 ^ 48) → CanStop f c (stack .arrays .words)
   can-stop f b = record { start = b .0; end = b .1; stack = can-finish .stackWords; counts = can-report }
 
   -- the text has ended
-  pub end-out : (r : Lexed) → length text ≤ c .at → lexedMeant r ≡ verdictAt doc c sk sw → Lexes doc text (lent ks₀ ws₀) (lent sk₀ sw₀) (lexedMeant r) (lent ks ws) (lent sk sw)
+  pub end-out : (r : Lexed) → length text ≤ c .at → lexedMeant r ≡ verdictAt doc c (stack .arrays .kinds) (stack .arrays .words) → Lexes doc text list₀ stack₀ (lexedMeant r) list stack
   end-out r h v = way-out (atEnd (codes doc (s .past))) r (standing-end s h) (v ∙ at-end)
     where
-      at-end : verdictAt doc c sk sw ≡ countedAt (verdictOf doc (c .at) (opened doc (s .past)) (atEnd (codes doc (s .past)))) c
+      at-end : verdictAt doc c (stack .arrays .kinds) (stack .arrays .words) ≡ countedAt (verdictOf doc (c .at) (opened doc (s .past)) (atEnd (codes doc (s .past)))) c
       at-end = decide (eqb (c .depth) 0)
           (λ z. rw (z, at-end-none doc (c .at) (opened doc (s .past)) (omega (arith, s .counted .depth, eqb-true (c .depth) 0 z))))
           (λ z.
           let deep : 0 < c .depth = omega (arith, eqb-false (c .depth) 0 z) in
-          rw (z, at-end-some doc (c .at) (opened doc (s .past)) (omega (arith, s .counted .depth)), ← (top-code s deep), note-some s (unclosed (getD sk (c .depth - 1) 0)) deep (unclosed-noted (getD sk (c .depth - 1) 0))))
+          rw (z, at-end-some doc (c .at) (opened doc (s .past)) (omega (arith, s .counted .depth)), ← (top-code s deep), note-some s (unclosed (getD (stack .arrays .kinds) (c .depth - 1) 0)) deep (unclosed-noted (getD (stack .arrays .kinds) (c .depth - 1) 0))))
 
   module _ (h : c .at < length text) where
     stop-here : (f : Fault) →
-        refusedAt (f .number) (f .start) (f .end) ≡ outcome (c .at) (step (innermostIn (c .depth) sk) (drop (c .at) text)) →
+        refusedAt (f .number) (f .start) (f .end) ≡ outcome (c .at) (step (innermostIn (c .depth) (stack .arrays .kinds)) (drop (c .at) text)) →
         Stop (c .at) (step (innermost (codes doc (s .past))) (drop (c .at) text)) (f .number) (f .start) (f .end)
     stop-here f o = outcome-stop (c .at) (f .number) (f .start) (f .end) (step (innermost (codes doc (s .past))) (drop (c .at) text)) (rw standing-innermost at o)
 
@@ -176,21 +169,21 @@ module _ {doc : ℕ} {text ks₀ ws₀ sk₀ sw₀ ks ws sk sw : List ℕ} {c : 
 
     -- the text refuses the step
     pub stop-out : (f : Fault) (r : Lexed) →
-        refusedAt (f .number) (f .start) (f .end) ≡ outcome (c .at) (step (innermostIn (c .depth) sk) (drop (c .at) text)) →
-        lexedMeant r ≡ refusedWith doc f c (noteAt (f .number) (c .depth) sw) → Lexes doc text (lent ks₀ ws₀) (lent sk₀ sw₀) (lexedMeant r) (lent ks ws) (lent sk sw)
+        refusedAt (f .number) (f .start) (f .end) ≡ outcome (c .at) (step (innermostIn (c .depth) (stack .arrays .kinds)) (drop (c .at) text)) →
+        lexedMeant r ≡ refusedWith doc f c (noteAt (f .number) (c .depth) (stack .arrays .words)) → Lexes doc text list₀ stack₀ (lexedMeant r) list stack
     stop-out f r o v =
         let x : Stop (c .at) (step (innermost (codes doc (s .past))) (drop (c .at) text)) (f .number) (f .start) (f .end) = stop-here f o in
         let n : (10 ≤ f .number) × (f .number ≤ 24) = stop-number (innermost (codes doc (s .past))) (drop (c .at) text) (f .number) (x .from) (x .size) (x .is) in
         way-out (stopped (f .number) (x .from) (x .size)) r (standing-stop s h (f .number) (x .from) (x .size) (x .is)) (v ∙ same x (note-agrees (f .number) (below-25 (f .number) (n .1))))
       where
         same : (x : Stop (c .at) (step (innermost (codes doc (s .past))) (drop (c .at) text)) (f .number) (f .start) (f .end)) →
-            noteAt (f .number) (c .depth) sw ≡ noteOf (f .number) (opened doc (s .past)) →
-            refusedWith doc f c (noteAt (f .number) (c .depth) sw) ≡ countedAt (verdictOf doc (c .at) (opened doc (s .past)) (stopped (f .number) (x .from) (x .size))) c
+            noteAt (f .number) (c .depth) (stack .arrays .words) ≡ noteOf (f .number) (opened doc (s .past)) →
+            refusedWith doc f c (noteAt (f .number) (c .depth) (stack .arrays .words)) ≡ countedAt (verdictOf doc (c .at) (opened doc (s .past)) (stopped (f .number) (x .from) (x .size))) c
         same x e = unfold verdictOf in rw (e, x .starts, x .ends)
 
     -- the fault's offsets are within the limit
     pub stop-small : (f : Fault) →
-        refusedAt (f .number) (f .start) (f .end) ≡ outcome (c .at) (step (innermostIn (c .depth) sk) (drop (c .at) text)) →
+        refusedAt (f .number) (f .start) (f .end) ≡ outcome (c .at) (step (innermostIn (c .depth) (stack .arrays .kinds)) (drop (c .at) text)) →
         (f .start < 2 ^ 48) × (f .end < 2 ^ 48)
     stop-small f o =
         let x : Stop (c .at) (step (innermost (codes doc (s .past))) (drop (c .at) text)) (f .number) (f .start) (f .end) = stop-here f o in
@@ -209,7 +202,7 @@ module _ {doc : ℕ} {text ks₀ ws₀ sk₀ sw₀ ks ws sk sw : List ℕ} {c : 
       pub fits : c .at + size ≤ length text
       pub ends : e ≡ c .at + size
 
-    pub took : (k e : ℕ) → lexemeTo k e ≡ outcome (c .at) (step (innermostIn (c .depth) sk) (drop (c .at) text)) → Took k e
+    pub took : (k e : ℕ) → lexemeTo k e ≡ outcome (c .at) (step (innermostIn (c .depth) (stack .arrays .kinds)) (drop (c .at) text)) → Took k e
     took k e o =
         let x : (n : ℕ) × (step (innermost (codes doc (s .past))) (drop (c .at) text) ≡ found k n) × (e ≡ c .at + n) =
         outcome-found (c .at) k e (step (innermost (codes doc (s .past))) (drop (c .at) text)) (rw standing-innermost at o) in
@@ -221,50 +214,47 @@ module _ {doc : ℕ} {text ks₀ ws₀ sk₀ sw₀ ks ws sk sw : List ℕ} {c : 
     took-small t = (omega (arith, s .small), omega (arith, s .small, t .ends, t .fits))
 
     -- there is no room for it
-    pub full-out : (k e number : ℕ) (r : Lexed) → Took k e → number ≡ noRoomOf (placesOf sk₀ sw₀) (placesOf ks₀ ws₀) c k → (number ≡ 0 → ⊥) →
-        lexedMeant r ≡ refusedWith doc (record { end = e; number = number; start = c .at }) c (noteAt number (c .depth) sw) → Lexes doc text (lent ks₀ ws₀) (lent sk₀ sw₀) (lexedMeant r) (lent ks ws) (lent sk sw)
+    pub full-out : (k e number : ℕ) (r : Lexed) → Took k e → number ≡ noRoomOf (placesIn stack₀) (placesIn list₀) c k → (number ≡ 0 → ⊥) →
+        lexedMeant r ≡ refusedWith doc (record { end = e; number = number; start = c .at }) c (noteAt number (c .depth) (stack .arrays .words)) → Lexes doc text list₀ stack₀ (lexedMeant r) list stack
     full-out k e number r t f z v =
         way-out (stopped number 0 (t .size)) r (standing-full s h k (t .size) (t .moves) (t .fits) (t .is) number (sym f) z)
-        (v ∙ same (note-agrees number (full-unnoted (placesOf sk₀ sw₀) (placesOf ks₀ ws₀) c k number f)))
+        (v ∙ same (note-agrees number (full-unnoted (placesIn stack₀) (placesIn list₀) c k number f)))
       where
-        same : noteAt number (c .depth) sw ≡ noteOf number (opened doc (s .past)) →
-            refusedWith doc (record { end = e; number = number; start = c .at }) c (noteAt number (c .depth) sw) ≡
+        same : noteAt number (c .depth) (stack .arrays .words) ≡ noteOf number (opened doc (s .past)) →
+            refusedWith doc (record { end = e; number = number; start = c .at }) c (noteAt number (c .depth) (stack .arrays .words)) ≡
             countedAt (verdictOf doc (c .at) (opened doc (s .past)) (stopped number 0 (t .size))) c
         same q = unfold verdictOf in rw (q, t .ends) (simp add-zero)
 
     -- the loop goes on
-    pub goes-on : {k e : ℕ} {ks′ ws′ sk′ sw′ : List ℕ} → Took k e → noRoomOf (placesOf sk₀ sw₀) (placesOf ks₀ ws₀) c k ≡ 0 → Wrote doc c k e ks ws sk sw ks′ ws′ sk′ sw′ →
-        Standing doc text ks₀ ws₀ sk₀ sw₀ ks′ ws′ sk′ sw′ (advanceOf c k e)
-    goes-on {k} {e} t f w =
-        let q : e ≡ c .at + t .size = t .ends in
-        rw (w .kinds, w .words, w .stackKinds, w .stackWords, q)
-        (standing-on s h k (t .size) (t .moves) (t .fits) (t .is) (low (span doc (c .at) (c .at + t .size))) (high (span doc (c .at) (c .at + t .size))) f refl refl)
+    pub goes-on : {k e : ℕ} → Took k e → noRoomOf (placesIn stack₀) (placesIn list₀) c k ≡ 0 →
+        Standing doc text list₀ stack₀ (putIf (not (isSpace k)) (c .lexemes) (lexeme k (span doc (c .at) e)) list) (putIf (isOpener k) (c .depth) (lexeme k (span doc (c .at) e)) stack) (advanceOf c k e)
+    goes-on {k} t f = rw (t .ends) (standing-on s h k (t .size) (t .moves) (t .fits) (t .is) f)
 
 -- a refusal before the first step leaves everything as it was
-at-once : (doc : ℕ) (text ks ws sk sw : List ℕ) (number at : ℕ) (r : Lexed) → traceIn (placesOf ks ws) (placesOf sk sw) text ≡ ends (stopped number at 0) →
-    lexedMeant r ≡ refusedWith doc (record { end = at; number = number; start = at }) start none → Lexes doc text (lent ks ws) (lent sk sw) (lexedMeant r) (lent ks ws) (lent sk sw)
+at-once : (doc : ℕ) (text : List ℕ) (list stack : Lent) (number at : ℕ) (r : Lexed) → traceIn (placesIn list) (placesIn stack) text ≡ ends (stopped number at 0) →
+    lexedMeant r ≡ refusedWith doc (record { end = at; number = number; start = at }) start none → Lexes doc text list stack (lexedMeant r) list stack
 unfolding lexing listing lexedOf verdictOf
-at-once doc text ks ws sk sw number at r t v =
+at-once doc text list stack number at r t v =
     record {
       result = v ∙ rw t (simp (zero-add, add-zero));
-      listed = same-lent (rw t) (rw t);
-      stacked = record { kinds = refl; words = refl; kindsLength = refl; wordsLength = refl };
+      listed = rw t;
+      stacked = all-untouched (r .deepest) (stack .arrays);
     }
 
 -- the two checks before the first step
-pub long-out : (doc : ℕ) (text ks ws sk sw : List ℕ) (r : Lexed) → limit < length text →
-    lexedMeant r ≡ refusedWith doc (record { end = 0; number = TooLong; start = 0 }) start none → Lexes doc text (lent ks ws) (lent sk sw) (lexedMeant r) (lent ks ws) (lent sk sw)
+pub long-out : (doc : ℕ) (text : List ℕ) (list stack : Lent) (r : Lexed) → limit < length text →
+    lexedMeant r ≡ refusedWith doc (record { end = 0; number = TooLong; start = 0 }) start none → Lexes doc text list stack (lexedMeant r) list stack
 unfolding traceIn
-long-out doc text ks ws sk sw r h v =
-    let t : traceIn (placesOf ks ws) (placesOf sk sw) text ≡ ends (stopped TooLong 0 0) = rw (trace-long text h) (within-ends (placesOf sk sw) 0 (placesOf ks ws) (stopped TooLong 0 0)) in
-    at-once doc text ks ws sk sw TooLong 0 r t v
+long-out doc text list stack r h v =
+    let t : traceIn (placesIn list) (placesIn stack) text ≡ ends (stopped TooLong 0 0) = rw (trace-long text h) (within-ends (placesIn stack) 0 (placesIn list) (stopped TooLong 0 0)) in
+    at-once doc text list stack TooLong 0 r t v
 
-pub bad-out : (doc : ℕ) (text ks ws sk sw : List ℕ) (bad : ℕ) (r : Lexed) → length text ≤ limit → firstBad text ≡ some bad →
-    lexedMeant r ≡ refusedWith doc (record { end = bad; number = NotUtf8; start = bad }) start none → Lexes doc text (lent ks ws) (lent sk sw) (lexedMeant r) (lent ks ws) (lent sk sw)
+pub bad-out : (doc : ℕ) (text : List ℕ) (list stack : Lent) (bad : ℕ) (r : Lexed) → length text ≤ limit → firstBad text ≡ some bad →
+    lexedMeant r ≡ refusedWith doc (record { end = bad; number = NotUtf8; start = bad }) start none → Lexes doc text list stack (lexedMeant r) list stack
 unfolding traceIn
-bad-out doc text ks ws sk sw bad r h e v =
-    let t : traceIn (placesOf ks ws) (placesOf sk sw) text ≡ ends (stopped NotUtf8 bad 0) = rw (trace-bad text bad h e) (within-ends (placesOf sk sw) 0 (placesOf ks ws) (stopped NotUtf8 bad 0)) in
-    at-once doc text ks ws sk sw NotUtf8 bad r t v
+bad-out doc text list stack bad r h e v =
+    let t : traceIn (placesIn list) (placesIn stack) text ≡ ends (stopped NotUtf8 bad 0) = rw (trace-bad text bad h e) (within-ends (placesIn stack) 0 (placesIn list) (stopped NotUtf8 bad 0)) in
+    at-once doc text list stack NotUtf8 bad r t v
 
 pub bad-inside : (text : List ℕ) (bad : ℕ) → firstBad text ≡ some bad → bad < length text
 bad-inside text bad e = (first-bad text bad .0 e) .inside

@@ -4,7 +4,7 @@ use native.Mathlib.Omega.{arith}
 use mathlib.Core.Path.{_≡_, sym, _∙_}
 use mathlib.Core.Bool.{true, false, cond, _&&_, false≢true}
 use lib.Dec.{leb, ltb, eqb}
-use borrow.Author.Tests.{ltb-true, eqb-true}
+use borrow.Author.Tests.{ltb-true}
 use Rattle.rules.specs.Kinds.{isSpace, isOpener, isCloser}
 use Rattle.rules.specs.Refusals.{AnotherDue, StackFull, ListFull}
 use Rattle.rules.specs.Spans.{span, spanOf, low, high}
@@ -12,6 +12,7 @@ use Rattle.rules.proofs.Text.{decide}
 use Rattle.lexer.specs.declared.Cursor.{Cursor}
 use Rattle.lexer.specs.Cursor.{noRoomOf}
 use Rattle.rules.proofs.Spans.{span-of-words}
+use Rattle.rules.proofs.SpacesAside.{space-opens, space-closes}
 
 -- the words of a span within the limit name it
 pub packed : (doc a e l h : ℕ) → a < 2 ^ 48 → e < 2 ^ 48 → (l ≡ low (span doc a e)) × (h ≡ high (span doc a e)) → spanOf l h ≡ span doc a e
@@ -29,15 +30,6 @@ full-opener stack places c k b o = rw (b, o)
 pub full-other : (stack places : ℕ) (c : Cursor) (k : ℕ) → isSpace k ≡ false → isOpener k ≡ false → cond (leb places (c .lexemes)) ListFull 0 ≡ noRoomOf stack places c k
 unfolding noRoomOf
 full-other stack places c k b o = rw (b, o)
-
--- a Space opens and closes nothing
-pub space-opens : (k : ℕ) → isSpace k ≡ true → isOpener k ≡ false
-unfolding isOpener
-space-opens k e = rw (eqb-true k 0 e)
-
-pub space-closes : (k : ℕ) → isSpace k ≡ true → isCloser k ≡ false
-unfolding isCloser
-space-closes k e = rw (eqb-true k 0 e)
 
 -- an opener and a closer are no Space
 pub opener-listed : (k : ℕ) → isOpener k ≡ true → isSpace k ≡ false

@@ -8,12 +8,12 @@ use native.Mathlib.Omega.{arith}
 use lib.Dec.{leb, eqb}
 use lib.ListN.{length, drop, getD, set, length-drop}
 use lib.Seq.{getD-set-same}
-use borrow.Author.Tests.{le-leb, lt-leb, lt-ltb, ne-eqb, eqb-true}
+use borrow.Author.Tests.{le-leb, lt-leb, ne-eqb, eqb-true}
 use Rattle.rules.specs.Refusals.{StackFull, ListFull}
 use Rattle.rules.specs.Spans.{span, spanOf, low, high}
 use Rattle.rules.specs.Kinds.{FormatDouble, FormatTriple, Space, isSpace, isOpener, isCloser}
 use Rattle.rules.specs.Step.{step, found}
-use Rattle.rules.specs.Lent.{lexeme, placesOf}
+use Rattle.rules.specs.Lent.{lexeme, Arrays, Lent, placesIn}
 use Rattle.rules.specs.Lexing.{depthAfter}
 use Rattle.rules.proofs.Bounds.{found-inside}
 use Rattle.rules.proofs.Text.{decide}
@@ -21,7 +21,9 @@ use Rattle.source.specs.declared.Span.{Span}
 use Rattle.token.specs.Codes.{codeOf, stateMeant, ifOpener}
 use Rattle.token.specs.declared.Opened.{Opened}
 use Rattle.token.specs.declared.Token.{Token}
-use Rattle.list.specs.Entries.{PutAt}
+use Rattle.rules.proofs.Lent.{same-places}
+use Rattle.list.specs.Entries.{putIn}
+use Rattle.list.proofs.Entries.{put-there}
 use Rattle.sublexers.proofs.Outcomes.{found-means}
 use Rattle.lexer.specs.declared.Cursor.{Cursor}
 use Rattle.sublexers.specs.declared.Fault.{Fault}
@@ -31,16 +33,17 @@ use Rattle.lexer.specs.declared.RunEnd.the-variants.{Reached}
 use Rattle.sublexers.specs.declared.Step.{Step}
 use Rattle.sublexers.specs.declared.Step.the-variants.{Found, Refused}
 use Rattle.lexer.specs.Cursor.{advanceOf, noRoomOf}
-use Rattle.lexer.specs.Going.{State, stateAt, Course, endsAfter, innermostIn, lexemeIn, PutIf, Goes, stay, on}
+use Rattle.lexer.specs.Going.{State, stateAt, stackCodes, Course, endsAfter, innermostIn, lexemeIn, putIf, Goes, stay, on}
 use Rattle.lexer.specs.Memory.{TopState}
 use Rattle.sublexers.specs.Outcome.{lexemeTo, refusedAt, outcome, stepMeant, innermostOf}
 use Rattle.lexer.specs.Results.{refusedBy, CanAdvance}
 use Rattle.lexer.specs.Running.{CanRun, ranFull, LoneIf, byText, byRoom, Runs, reached, halted}
 use Rattle.lexer.proofs.Opening.{opened-code}
-use Rattle.lexer.proofs.Parts.{packed, full-opener, full-other, space-opens, opener-listed}
-use Rattle.lexer.proofs.Standing.{Advanced, advanced, room-stack, space-depth, depth-opens, depth-rest, depth-stays}
+use Rattle.lexer.proofs.Parts.{packed, full-opener, full-other, opener-listed}
+use Rattle.lexer.proofs.Standing.{Advanced, advanced, room-stack, depth-opens, depth-rest, depth-stays}
 use Rattle.lexer.proofs.Loop.{no-state, outcome-found, fault-means}
 use Rattle.lexer.proofs.Going.{put-yes, put-no, Long, goes-long}
+use Rattle.rules.proofs.SpacesAside.{space-opens, space-depth}
 
 -- the state that the stack gives is that of its innermost code
 pub top-code-in : (depth : ℕ) (sk : List ℕ) (top : Opened) → TopState depth sk top → innermostOf top ≡ innermostIn depth sk
@@ -65,21 +68,21 @@ pub space-ends : (b : Bool) (k : ℕ) → k ≡ Space → endsAfter b k ≡ fals
 space-ends b k z = ends-not b k (space-opens k (rw z))
 
 module _ (w : Course) (from : State) where
-  pub record Running (ks ws sk sw : List ℕ) (c : Cursor) (top : Opened) (kind : ℕ) : Type 0 where
+  pub record Running (now : State) (top : Opened) : Type 0 where
     pub small : w .shift + length (w .text) < 2 ^ 48
     pub before : w .stop ≤ length (w .text)
-    pub inside : c .at ≤ length (w .text)
-    pub shallow : c .depth ≤ w .stack
-    pub deeper : c .depth ≤ c .deepest
-    pub steps : c .lexemes + c .spaces ≤ w .shift + c .at
-    pub dropped : c .dropped ≤ w .shift + c .at
-    pub going : w .ends kind ≡ false
-    pub state : TopState (c .depth) sk top
-    pub stackPlaces : w .stack ≡ placesOf (from .sk) (from .sw)
+    pub inside : now .cur .at ≤ length (w .text)
+    pub shallow : now .cur .depth ≤ w .stack
+    pub deeper : now .cur .depth ≤ now .cur .deepest
+    pub steps : now .cur .lexemes + now .cur .spaces ≤ w .shift + now .cur .at
+    pub dropped : now .cur .dropped ≤ w .shift + now .cur .at
+    pub going : w .ends (now .kind) ≡ false
+    pub state : TopState (now .cur .depth) (stackCodes now) top
+    pub stackPlaces : w .stack ≡ placesIn (from .stack)
     -- the steps that were taken
-    pub goes : Goes w from (stateAt c kind ks ws sk sw)
+    pub goes : Goes w from now
 
-  pub running-start : (top : Opened) → CanRun w from top → w .stack ≡ placesOf (from .sk) (from .sw) → Running (from .ks) (from .ws) (from .sk) (from .sw) (from .cur) top (from .kind)
+  pub running-start : (top : Opened) → CanRun w from top → w .stack ≡ placesIn (from .stack) → Running from top
   running-start top can p = record {
     small = can .small;
     before = can .before;
@@ -94,48 +97,48 @@ module _ (w : Course) (from : State) where
     goes = stay;
   }
 
-module _ {w : Course} {from : State} {ks ws sk sw : List ℕ} {c : Cursor} {top : Opened} {kind : ℕ} (s : Running w from ks ws sk sw c top kind) where
-  pub as-long : Long from (stateAt c kind ks ws sk sw)
-  as-long = goes-long (stateAt c kind ks ws sk sw) (s .goes)
+module _ {w : Course} {from now : State} {top : Opened} (s : Running w from now top) where
+  pub as-long : Long from now
+  as-long = goes-long now (s .goes)
 
-  module _ (h : c .at < w .stop) where
-    here : c .at < length (w .text)
+  module _ (h : now .cur .at < w .stop) where
+    here : now .cur .at < length (w .text)
     here = omega (arith, s .before)
 
-    left : 0 < length (drop (c .at) (w .text))
-    left = omega (arith, here, length-drop (c .at) (w .text))
+    left : 0 < length (drop (now .cur .at) (w .text))
+    left = omega (arith, here, length-drop (now .cur .at) (w .text))
 
     -- what a lexeme that was found says of the text
     pub record Taken (k e : ℕ) : Type 0 where
-      pub is : lexemeTo k e ≡ outcome (c .at) (step (innermostOf top) (drop (c .at) (w .text)))
-      pub moves : c .at < e
+      pub is : lexemeTo k e ≡ outcome (now .cur .at) (step (innermostOf top) (drop (now .cur .at) (w .text)))
+      pub moves : now .cur .at < e
       pub fits : e ≤ length (w .text)
 
-    pub taken : (answer : Step) (m : Match) → answer ≡ Found m → stepMeant answer ≡ outcome (c .at) (step (innermostOf top) (drop (c .at) (w .text))) → Taken (m .kind) (m .end)
+    pub taken : (answer : Step) (m : Match) → answer ≡ Found m → stepMeant answer ≡ outcome (now .cur .at) (step (innermostOf top) (drop (now .cur .at) (w .text))) → Taken (m .kind) (m .end)
     taken answer m a o =
-        let is : lexemeTo (m .kind) (m .end) ≡ outcome (c .at) (step (innermostOf top) (drop (c .at) (w .text))) = found-means (c .at) (step (innermostOf top) (drop (c .at) (w .text))) answer m a o .1 in
-        let x : (n : ℕ) × (step (innermostOf top) (drop (c .at) (w .text)) ≡ found (m .kind) n) × (m .end ≡ c .at + n) =
-        outcome-found (c .at) (m .kind) (m .end) (step (innermostOf top) (drop (c .at) (w .text))) is in
-        let i : (0 < x .0) × (x .0 ≤ length (drop (c .at) (w .text))) = found-inside (innermostOf top) (drop (c .at) (w .text)) (m .kind) (x .0) left (x .1) in
-        let d : length (drop (c .at) (w .text)) ≡ length (w .text) - c .at = length-drop (c .at) (w .text) in
-        let e : m .end ≡ c .at + x .0 = x .2 in
+        let is : lexemeTo (m .kind) (m .end) ≡ outcome (now .cur .at) (step (innermostOf top) (drop (now .cur .at) (w .text))) = found-means (now .cur .at) (step (innermostOf top) (drop (now .cur .at) (w .text))) answer m a o .1 in
+        let x : (n : ℕ) × (step (innermostOf top) (drop (now .cur .at) (w .text)) ≡ found (m .kind) n) × (m .end ≡ now .cur .at + n) =
+        outcome-found (now .cur .at) (m .kind) (m .end) (step (innermostOf top) (drop (now .cur .at) (w .text))) is in
+        let i : (0 < x .0) × (x .0 ≤ length (drop (now .cur .at) (w .text))) = found-inside (innermostOf top) (drop (now .cur .at) (w .text)) (m .kind) (x .0) left (x .1) in
+        let d : length (drop (now .cur .at) (w .text)) ≡ length (w .text) - now .cur .at = length-drop (now .cur .at) (w .text) in
+        let e : m .end ≡ now .cur .at + x .0 = x .2 in
         record { is = is; moves = omega arith; fits = omega (arith, here) }
 
     -- its code is its token's
-    pub token-code : (answer : Step) (m : Match) → answer ≡ Found m → stepMeant answer ≡ outcome (c .at) (step (innermostOf top) (drop (c .at) (w .text))) → m .kind ≡ codeOf (m .token)
-    token-code answer m a o = found-means (c .at) (step (innermostOf top) (drop (c .at) (w .text))) answer m a o .0
+    pub token-code : (answer : Step) (m : Match) → answer ≡ Found m → stepMeant answer ≡ outcome (now .cur .at) (step (innermostOf top) (drop (now .cur .at) (w .text))) → m .kind ≡ codeOf (m .token)
+    token-code answer m a o = found-means (now .cur .at) (step (innermostOf top) (drop (now .cur .at) (w .text))) answer m a o .0
 
     -- a lexeme that the text refuses
-    pub refused-out : (answer : Step) (r : RunEnd) (f : Fault) → answer ≡ Refused f → r ≡ refusedBy answer c → stepMeant answer ≡ outcome (c .at) (step (innermostOf top) (drop (c .at) (w .text))) →
-        Runs w from ks ws sk sw r
+    pub refused-out : (answer : Step) (r : RunEnd) (f : Fault) → answer ≡ Refused f → r ≡ refusedBy answer (now .cur) → stepMeant answer ≡ outcome (now .cur .at) (step (innermostOf top) (drop (now .cur .at) (w .text))) →
+        Runs w from (now .list) (now .stack) r
     unfolding refusedBy
     refused-out answer r f a q o =
-        let says : refusedAt (f .number) (f .start) (f .end) ≡ outcome (c .at) (step (innermostIn (c .depth) sk) (drop (c .at) (w .text))) =
-        rw (top-code-in (c .depth) sk top (s .state)) at (fault-means answer f a ∙ o) in
-        rw (q, a) (halted c kind f (s .goes) h (s .going) (byText says))
+        let says : refusedAt (f .number) (f .start) (f .end) ≡ outcome (now .cur .at) (step (innermostIn (now .cur .depth) (stackCodes now)) (drop (now .cur .at) (w .text))) =
+        rw (top-code-in (now .cur .depth) (stackCodes now) top (s .state)) at (fault-means answer f a ∙ o) in
+        rw (q, a) (halted (now .cur) (now .kind) f (s .goes) h (s .going) (byText says))
 
     module _ {k e : ℕ} (t : Taken k e) where
-      pub can-advance : w .stack < 2 ^ 63 → CanAdvance c e
+      pub can-advance : w .stack < 2 ^ 63 → CanAdvance (now .cur) e
       can-advance p = record {
         forward = omega (arith, t .moves);
         small = omega (arith, t .fits, s .small);
@@ -146,55 +149,55 @@ module _ {w : Course} {from : State} {ks ws sk sw : List ℕ} {c : Cursor} {top 
       }
 
       -- its offsets in the document are within the limit
-      pub in-document : (w .shift + c .at < 2 ^ 48) × (w .shift + e < 2 ^ 48)
+      pub in-document : (w .shift + now .cur .at < 2 ^ 48) × (w .shift + e < 2 ^ 48)
       in-document = (omega (arith, s .inside, s .small), omega (arith, t .fits, s .small))
 
       -- it is the rules' step
-      found-here : lexemeTo k e ≡ outcome (c .at) (step (innermostIn (c .depth) sk) (drop (c .at) (w .text)))
-      found-here = rw (top-code-in (c .depth) sk top (s .state)) at (t .is)
+      found-here : lexemeTo k e ≡ outcome (now .cur .at) (step (innermostIn (now .cur .depth) (stackCodes now)) (drop (now .cur .at) (w .text)))
+      found-here = rw (top-code-in (now .cur .depth) (stackCodes now) top (s .state)) at (t .is)
 
       -- there is no room for it: 30 of an opener, 31 of any lexeme
-      full-stop : (number : ℕ) → number ≡ noRoomOf (w .stack) (w .places) c k → (number ≡ 0 → ⊥) → Runs w from ks ws sk sw (ranFull c (c .at) e number)
-      full-stop number f some-number = halted c kind _ (s .goes) h (s .going) (byRoom k found-here f some-number refl)
+      full-stop : (number : ℕ) → number ≡ noRoomOf (w .stack) (w .places) (now .cur) k → (number ≡ 0 → ⊥) → Runs w from (now .list) (now .stack) (ranFull (now .cur) (now .cur .at) e number)
+      full-stop number f some-number = halted (now .cur) (now .kind) _ (s .goes) h (s .going) (byRoom k found-here f some-number refl)
 
-      pub stack-full : isOpener k ≡ true → w .stack ≤ c .depth → Runs w from ks ws sk sw (ranFull c (c .at) e StackFull)
+      pub stack-full : isOpener k ≡ true → w .stack ≤ now .cur .depth → Runs w from (now .list) (now .stack) (ranFull (now .cur) (now .cur .at) e StackFull)
       stack-full o le =
-          let full : cond (leb (w .stack) (c .depth)) StackFull (cond (leb (w .places) (c .lexemes)) ListFull 0) ≡ StackFull = rw (le-leb (w .stack) (c .depth) le) in
-          full-stop StackFull (sym full ∙ full-opener (w .stack) (w .places) c k (opener-listed k o) o) (λ z. absurd (omega arith))
+          let full : cond (leb (w .stack) (now .cur .depth)) StackFull (cond (leb (w .places) (now .cur .lexemes)) ListFull 0) ≡ StackFull = rw (le-leb (w .stack) (now .cur .depth) le) in
+          full-stop StackFull (sym full ∙ full-opener (w .stack) (w .places) (now .cur) k (opener-listed k o) o) (λ z. absurd (omega arith))
 
-      pub opener-unlisted : isOpener k ≡ true → c .depth < w .stack → w .places ≤ c .lexemes → Runs w from ks ws sk sw (ranFull c (c .at) e ListFull)
+      pub opener-unlisted : isOpener k ≡ true → now .cur .depth < w .stack → w .places ≤ now .cur .lexemes → Runs w from (now .list) (now .stack) (ranFull (now .cur) (now .cur .at) e ListFull)
       opener-unlisted o lt le =
-          let full : cond (leb (w .stack) (c .depth)) StackFull (cond (leb (w .places) (c .lexemes)) ListFull 0) ≡ ListFull = rw (lt-leb (w .stack) (c .depth) lt, le-leb (w .places) (c .lexemes) le) in
-          full-stop ListFull (sym full ∙ full-opener (w .stack) (w .places) c k (opener-listed k o) o) (λ z. absurd (omega arith))
+          let full : cond (leb (w .stack) (now .cur .depth)) StackFull (cond (leb (w .places) (now .cur .lexemes)) ListFull 0) ≡ ListFull = rw (lt-leb (w .stack) (now .cur .depth) lt, le-leb (w .places) (now .cur .lexemes) le) in
+          full-stop ListFull (sym full ∙ full-opener (w .stack) (w .places) (now .cur) k (opener-listed k o) o) (λ z. absurd (omega arith))
 
-      pub other-unlisted : isSpace k ≡ false → isOpener k ≡ false → w .places ≤ c .lexemes → Runs w from ks ws sk sw (ranFull c (c .at) e ListFull)
+      pub other-unlisted : isSpace k ≡ false → isOpener k ≡ false → w .places ≤ now .cur .lexemes → Runs w from (now .list) (now .stack) (ranFull (now .cur) (now .cur .at) e ListFull)
       other-unlisted b o le =
-          let full : cond (leb (w .places) (c .lexemes)) ListFull 0 ≡ ListFull = rw (le-leb (w .places) (c .lexemes) le) in
-          full-stop ListFull (sym full ∙ full-other (w .stack) (w .places) c k b o) (λ z. absurd (omega arith))
+          let full : cond (leb (w .places) (now .cur .lexemes)) ListFull 0 ≡ ListFull = rw (le-leb (w .places) (now .cur .lexemes) le) in
+          full-stop ListFull (sym full ∙ full-other (w .stack) (w .places) (now .cur) k b o) (λ z. absurd (omega arith))
 
       -- or there is
-      pub opener-fits : isOpener k ≡ true → c .depth < w .stack → c .lexemes < w .places → noRoomOf (w .stack) (w .places) c k ≡ 0
-      opener-fits o lt ll = sym (full-opener (w .stack) (w .places) c k (opener-listed k o) o) ∙ rw (lt-leb (w .stack) (c .depth) lt, lt-leb (w .places) (c .lexemes) ll)
+      pub opener-fits : isOpener k ≡ true → now .cur .depth < w .stack → now .cur .lexemes < w .places → noRoomOf (w .stack) (w .places) (now .cur) k ≡ 0
+      opener-fits o lt ll = sym (full-opener (w .stack) (w .places) (now .cur) k (opener-listed k o) o) ∙ rw (lt-leb (w .stack) (now .cur .depth) lt, lt-leb (w .places) (now .cur .lexemes) ll)
 
-      pub other-fits : isSpace k ≡ false → isOpener k ≡ false → c .lexemes < w .places → noRoomOf (w .stack) (w .places) c k ≡ 0
-      other-fits b o ll = sym (full-other (w .stack) (w .places) c k b o) ∙ rw (lt-leb (w .places) (c .lexemes) ll)
+      pub other-fits : isSpace k ≡ false → isOpener k ≡ false → now .cur .lexemes < w .places → noRoomOf (w .stack) (w .places) (now .cur) k ≡ 0
+      other-fits b o ll = sym (full-other (w .stack) (w .places) (now .cur) k b o) ∙ rw (lt-leb (w .places) (now .cur .lexemes) ll)
 
       -- one step more
-      goes-one : {ks′ ws′ sk′ sw′ : List ℕ} → noRoomOf (w .stack) (w .places) c k ≡ 0 → PutIf (not (isSpace k)) (c .lexemes) (lexemeIn w k (c .at) e) ks ws ks′ ws′ →
-          PutIf (isOpener k) (c .depth) (lexemeIn w k (c .at) e) sk sw sk′ sw′ → Goes w from (stateAt (advanceOf c k e) k ks′ ws′ sk′ sw′)
-      goes-one {ks′} {ws′} {sk′} {sw′} f l p =
-          let x : (n : ℕ) × (step (innermostIn (c .depth) sk) (drop (c .at) (w .text)) ≡ found k n) × (e ≡ c .at + n) =
-          outcome-found (c .at) k e (step (innermostIn (c .depth) sk) (drop (c .at) (w .text))) found-here in
-          on (stateAt c kind ks ws sk sw) (stateAt (advanceOf c k e) k ks′ ws′ sk′ sw′) (s .goes)
-          (record { before = h; going = s .going; size = x .0; is = x .1; room = f; cursor = ap (advanceOf c k) (x .2); list = rw (x .2) at l; stack = rw (x .2) at p })
+      goes-one : {list′ stack′ : Lent} → noRoomOf (w .stack) (w .places) (now .cur) k ≡ 0 → list′ ≡ putIf (not (isSpace k)) (now .cur .lexemes) (lexemeIn w k (now .cur .at) e) (now .list) →
+          stack′ ≡ putIf (isOpener k) (now .cur .depth) (lexemeIn w k (now .cur .at) e) (now .stack) → Goes w from (stateAt (advanceOf (now .cur) k e) k list′ stack′)
+      goes-one {list′} {stack′} f l p =
+          let x : (n : ℕ) × (step (innermostIn (now .cur .depth) (stackCodes now)) (drop (now .cur .at) (w .text)) ≡ found k n) × (e ≡ now .cur .at + n) =
+          outcome-found (now .cur .at) k e (step (innermostIn (now .cur .depth) (stackCodes now)) (drop (now .cur .at) (w .text))) found-here in
+          on now (stateAt (advanceOf (now .cur) k e) k list′ stack′) (s .goes)
+          (record { before = h; going = s .going; size = x .0; is = x .1; room = f; cursor = ap (advanceOf (now .cur) k) (x .2); list = rw (x .2) at l; stack = rw (x .2) at p })
 
       -- the loop goes on
-      runs-on : (top′ : Opened) {ks′ ws′ sk′ sw′ : List ℕ} → noRoomOf (w .stack) (w .places) c k ≡ 0 → Goes w from (stateAt (advanceOf c k e) k ks′ ws′ sk′ sw′) → w .ends k ≡ false →
-          TopState (advanceOf c k e .depth) sk′ top′ → Running w from ks′ ws′ sk′ sw′ (advanceOf c k e) top′ k
+      runs-on : (top′ : Opened) {list′ stack′ : Lent} → noRoomOf (w .stack) (w .places) (now .cur) k ≡ 0 → Goes w from (stateAt (advanceOf (now .cur) k e) k list′ stack′) → w .ends k ≡ false →
+          TopState (advanceOf (now .cur) k e .depth) (stack′ .arrays .kinds) top′ → Running w from (stateAt (advanceOf (now .cur) k e) k list′ stack′) top′
       runs-on top′ f g o t′ =
-          let m : Advanced c k e (advanceOf c k e) = advanced c k e (s .deeper) in
-          let depth₁ : depthAfter (c .depth) k ≤ w .stack =
-          decide (isOpener k) (λ b. omega (arith, depth-opens (c .depth) k b, room-stack (w .stack) (w .places) c k f b)) (λ b. omega (arith, depth-rest (c .depth) k b, s .shallow)) in
+          let m : Advanced (now .cur) k e (advanceOf (now .cur) k e) = advanced (now .cur) k e (s .deeper) in
+          let depth₁ : depthAfter (now .cur .depth) k ≤ w .stack =
+          decide (isOpener k) (λ b. omega (arith, depth-opens (now .cur .depth) k b, room-stack (w .stack) (w .places) (now .cur) k f b)) (λ b. omega (arith, depth-rest (now .cur .depth) k b, s .shallow)) in
           record {
             small = s .small;
             before = s .before;
@@ -209,81 +212,81 @@ module _ {w : Course} {from : State} {ks ws sk sw : List ℕ} {c : Cursor} {top 
             goes = g;
           }
 
-      pub runs-less : {c′ : Cursor} (j : ℕ) → c′ ≡ advanceOf c j e → length (w .text) - c′ .at < length (w .text) - c .at
+      pub runs-less : {c′ : Cursor} (j : ℕ) → c′ ≡ advanceOf (now .cur) j e → length (w .text) - c′ .at < length (w .text) - now .cur .at
       runs-less j q =
-          let m : Advanced c j e (advanceOf c j e) = advanced c j e (s .deeper) in
+          let m : Advanced (now .cur) j e (advanceOf (now .cur) j e) = advanced (now .cur) j e (s .deeper) in
           rw q (omega (arith, m .at, t .moves, t .fits))
 
-      pub ends-at : {c′ : Cursor} → c′ ≡ advanceOf c k e → c′ .at ≡ e
-      ends-at q = rw q (advanced c k e (s .deeper) .at)
+      pub ends-at : {c′ : Cursor} → c′ ≡ advanceOf (now .cur) k e → c′ .at ≡ e
+      ends-at q = rw q (advanced (now .cur) k e (s .deeper) .at)
 
       -- after a lexeme that opens nothing the stack still has its places, and what neither opens nor closes leaves the state as it is
-      pub other-shallow : {c′ : Cursor} → isOpener k ≡ false → c′ ≡ advanceOf c k e → c′ .depth ≤ length sk
+      pub other-shallow : {c′ : Cursor} → isOpener k ≡ false → c′ ≡ advanceOf (now .cur) k e → c′ .depth ≤ length (stackCodes now)
       other-shallow o q =
-          let m : Advanced c k e (advanceOf c k e) = advanced c k e (s .deeper) in
-          rw q (omega (arith, m .depth, depth-rest (c .depth) k o, s .shallow, s .stackPlaces, as-long .stackKinds))
+          let m : Advanced (now .cur) k e (advanceOf (now .cur) k e) = advanced (now .cur) k e (s .deeper) in
+          rw q (omega (arith, m .depth, depth-rest (now .cur .depth) k o, s .shallow, s .stackPlaces, as-long .stack .kinds))
 
-      pub other-top : {c′ : Cursor} → isOpener k ≡ false → isCloser k ≡ false → c′ ≡ advanceOf c k e → TopState (c′ .depth) sk top
+      pub other-top : {c′ : Cursor} → isOpener k ≡ false → isCloser k ≡ false → c′ ≡ advanceOf (now .cur) k e → TopState (c′ .depth) (stackCodes now) top
       other-top o n q =
-          let m : Advanced c k e (advanceOf c k e) = advanced c k e (s .deeper) in
-          rw (q, m .depth, depth-stays (c .depth) k o n) (s .state)
+          let m : Advanced (now .cur) k e (advanceOf (now .cur) k e) = advanced (now .cur) k e (s .deeper) in
+          rw (q, m .depth, depth-stays (now .cur .depth) k o n) (s .state)
 
       -- a Space: no array changes
-      pub space-on : {c′ : Cursor} → k ≡ Space → w .ends k ≡ false → c′ ≡ advanceOf c Space e → Running w from ks ws sk sw c′ top k
+      pub space-on : {c′ : Cursor} → k ≡ Space → w .ends k ≡ false → c′ ≡ advanceOf (now .cur) Space e → Running w from (stateAt c′ k (now .list) (now .stack)) top
       space-on z n q =
           let b : isSpace k ≡ true = rw z in
           let o : isOpener k ≡ false = space-opens k b in
-          let f : noRoomOf (w .stack) (w .places) c k ≡ 0 = space-fits (w .stack) (w .places) c k b in
-          let m : Advanced c k e (advanceOf c k e) = advanced c k e (s .deeper) in
-          rw (q, ← z) (runs-on top f (goes-one f (put-no (ap not b)) (put-no o)) n (rw (m .depth, space-depth (c .depth) k b) (s .state)))
+          let f : noRoomOf (w .stack) (w .places) (now .cur) k ≡ 0 = space-fits (w .stack) (w .places) (now .cur) k b in
+          let m : Advanced (now .cur) k e (advanceOf (now .cur) k e) = advanced (now .cur) k e (s .deeper) in
+          rw (q, ← z) (runs-on top f (goes-one f (put-no _ _ (now .list) (ap not b)) (put-no _ _ (now .stack) o)) n (rw (m .depth, space-depth (now .cur .depth) k b) (s .state)))
 
       -- any other lexeme, where there is room for it
-      module _ (listed : isSpace k ≡ false) (room : noRoomOf (w .stack) (w .places) c k ≡ 0) {ks′ ws′ : List ℕ} (sp : Span)
-          (words-here : (sp .low ≡ low (span (w .doc) (w .shift + c .at) (w .shift + e))) × (sp .high ≡ high (span (w .doc) (w .shift + c .at) (w .shift + e))))
-          (put : PutAt (c .lexemes) (lexeme k (spanOf (sp .low) (sp .high))) ks ws ks′ ws′) where
-        span-here : spanOf (sp .low) (sp .high) ≡ span (w .doc) (w .shift + c .at) (w .shift + e)
-        span-here = packed (w .doc) (w .shift + c .at) (w .shift + e) (sp .low) (sp .high) (in-document .0) (in-document .1) words-here
+      module _ (listed : isSpace k ≡ false) (room : noRoomOf (w .stack) (w .places) (now .cur) k ≡ 0) {list′ : Lent} (sp : Span)
+          (words-here : (sp .low ≡ low (span (w .doc) (w .shift + now .cur .at) (w .shift + e))) × (sp .high ≡ high (span (w .doc) (w .shift + now .cur .at) (w .shift + e))))
+          (put : list′ .arrays ≡ putIn (now .cur .lexemes) (lexeme k (spanOf (sp .low) (sp .high))) (now .list .arrays)) where
+        span-here : spanOf (sp .low) (sp .high) ≡ span (w .doc) (w .shift + now .cur .at) (w .shift + e)
+        span-here = packed (w .doc) (w .shift + now .cur .at) (w .shift + e) (sp .low) (sp .high) (in-document .0) (in-document .1) words-here
 
-        list-put : PutIf (not (isSpace k)) (c .lexemes) (lexemeIn w k (c .at) e) ks ws ks′ ws′
-        list-put = put-yes (ap not listed) (rw span-here at put)
+        list-put : list′ ≡ putIf (not (isSpace k)) (now .cur .lexemes) (lexemeIn w k (now .cur .at) e) (now .list)
+        list-put = put-yes (now .cur .lexemes) (lexemeIn w k (now .cur .at) e) (now .list) (ap not listed) (rw span-here at put)
 
-        pub other-on : {c′ : Cursor} (top′ : Opened) → isOpener k ≡ false → w .ends k ≡ false → c′ ≡ advanceOf c k e → TopState (c′ .depth) sk top′ → Running w from ks′ ws′ sk sw c′ top′ k
-        other-on top′ o n q t′ = rw q (runs-on top′ room (goes-one room list-put (put-no o)) n (rw q at t′))
+        pub other-on : {c′ : Cursor} (top′ : Opened) → isOpener k ≡ false → w .ends k ≡ false → c′ ≡ advanceOf (now .cur) k e → TopState (c′ .depth) (stackCodes now) top′ → Running w from (stateAt c′ k list′ (now .stack)) top′
+        other-on top′ o n q t′ = rw q (runs-on top′ room (goes-one room list-put (put-no _ _ (now .stack) o)) n (rw q at t′))
 
-        module _ {sk′ sw′ : List ℕ} (o : isOpener k ≡ true) (push : PutAt (c .depth) (lexeme k (spanOf (sp .low) (sp .high))) sk sw sk′ sw′) where
-          opener-goes : Goes w from (stateAt (advanceOf c k e) k ks′ ws′ sk′ sw′)
-          opener-goes = goes-one room list-put (put-yes o (rw span-here at push))
+        module _ {stack′ : Lent} (o : isOpener k ≡ true) (push : stack′ .arrays ≡ putIn (now .cur .depth) (lexeme k (spanOf (sp .low) (sp .high))) (now .stack .arrays)) where
+          opener-goes : Goes w from (stateAt (advanceOf (now .cur) k e) k list′ stack′)
+          opener-goes = goes-one room list-put (put-yes (now .cur .depth) (lexemeIn w k (now .cur .at) e) (now .stack) o (rw span-here at push))
 
-          pub opener-long : Long from (stateAt (advanceOf c k e) k ks′ ws′ sk′ sw′)
-          opener-long = goes-long (stateAt (advanceOf c k e) k ks′ ws′ sk′ sw′) opener-goes
+          pub opener-long : Long from (stateAt (advanceOf (now .cur) k e) k list′ stack′)
+          opener-long = goes-long (stateAt (advanceOf (now .cur) k e) k list′ stack′) opener-goes
 
           -- it is innermost now
-          opener-top : (top′ : Opened) → stateMeant top′ ≡ ifOpener k → TopState (advanceOf c k e .depth) sk′ top′
+          opener-top : (top′ : Opened) → stateMeant top′ ≡ ifOpener k → TopState (advanceOf (now .cur) k e .depth) (stack′ .arrays .kinds) top′
           opener-top top′ state =
-              let m : Advanced c k e (advanceOf c k e) = advanced c k e (s .deeper) in
-              let back : suc (c .depth) - 1 ≡ c .depth = omega arith in
-              let some-open : eqb (suc (c .depth)) 0 ≡ false = ne-eqb (suc (c .depth)) 0 (λ z. omega arith) in
-              let r : c .depth < w .stack = room-stack (w .stack) (w .places) c k room o in
-              let r′ : c .depth < placesOf sk sw = omega (arith, s .stackPlaces, as-long .stackKinds, as-long .stackWords) in
-              let kinds : sk′ ≡ set sk (c .depth) k = push .kinds ∙ rw (lt-ltb (c .depth) (placesOf sk sw) r′) in
-              rw (m .depth, depth-opens (c .depth) k o, some-open, back, kinds, getD-set-same sk (c .depth) k 0 (omega arith)) state
+              let m : Advanced (now .cur) k e (advanceOf (now .cur) k e) = advanced (now .cur) k e (s .deeper) in
+              let back : suc (now .cur .depth) - 1 ≡ now .cur .depth = omega arith in
+              let some-open : eqb (suc (now .cur .depth)) 0 ≡ false = ne-eqb (suc (now .cur .depth)) 0 (λ z. omega arith) in
+              let r : now .cur .depth < w .stack = room-stack (w .stack) (w .places) (now .cur) k room o in
+              let r′ : now .cur .depth < placesIn (now .stack) = omega (arith, s .stackPlaces, same-places (as-long .stack)) in
+              let kinds : stack′ .arrays .kinds ≡ set (stackCodes now) (now .cur .depth) k = ap (λ (a : Arrays). a .kinds) (push ∙ put-there (now .cur .depth) (lexeme k (spanOf (sp .low) (sp .high))) (now .stack .arrays) r′) in
+              rw (m .depth, depth-opens (now .cur .depth) k o, some-open, back, kinds, getD-set-same (stackCodes now) (now .cur .depth) k 0 (omega arith)) state
 
-          pub opener-on : {c′ : Cursor} (top′ : Opened) → w .ends k ≡ false → c′ ≡ advanceOf c k e → stateMeant top′ ≡ ifOpener k → Running w from ks′ ws′ sk′ sw′ c′ top′ k
+          pub opener-on : {c′ : Cursor} (top′ : Opened) → w .ends k ≡ false → c′ ≡ advanceOf (now .cur) k e → stateMeant top′ ≡ ifOpener k → Running w from (stateAt c′ k list′ stack′) top′
           opener-on top′ n q state = rw q (runs-on top′ room opener-goes n (opener-top top′ state))
 
           -- or it ends the run
-          pub opener-out : {c′ : Cursor} (token : Token) → k ≡ codeOf token → w .ends k ≡ true → c′ ≡ advanceOf c k e → Runs w from ks′ ws′ sk′ sw′ (Reached c′ token)
-          opener-out token code n q = rw q (reached (advanceOf c k e) token (rw (← code) opener-goes) (inr (rw (← code) n)))
+          pub opener-out : {c′ : Cursor} (token : Token) → k ≡ codeOf token → w .ends k ≡ true → c′ ≡ advanceOf (now .cur) k e → Runs w from list′ stack′ (Reached c′ token)
+          opener-out token code n q = rw q (reached (advanceOf (now .cur) k e) token (rw (← code) opener-goes) (inr (rw (← code) n)))
 
 -- a Space of one byte behind a lexeme, in the same turn
-module _ {w : Course} {from : State} {ks ws sk sw : List ℕ} {c : Cursor} {top : Opened} {kind : ℕ} (s : Running w from ks ws sk sw c top kind) {end : ℕ} {b : Bool} (at : c .at ≡ end) (says : b ≡ true) (lone : LoneIf b (w .text) end (w .stop) top) where
-  pub lone-before : c .at < w .stop
+module _ {w : Course} {from now : State} {top : Opened} (s : Running w from now top) {end : ℕ} {b : Bool} (at : now .cur .at ≡ end) (says : b ≡ true) (lone : LoneIf b (w .text) end (w .stop) top) where
+  pub lone-before : now .cur .at < w .stop
   lone-before = omega (arith, lone .before says)
 
   pub lone-taken : Taken s lone-before Space (end + 1)
   lone-taken = record { is = rw at (lone .space says); moves = omega arith; fits = omega (arith, lone .before says, s .before) }
 
 -- the last position is reached
-module _ {w : Course} {from : State} {ks ws sk sw : List ℕ} {c : Cursor} {top : Opened} {kind : ℕ} (s : Running w from ks ws sk sw c top kind) where
-  pub end-stop : (token : Token) → kind ≡ codeOf token → w .stop ≤ c .at → Runs w from ks ws sk sw (Reached c token)
-  end-stop token code h = reached c token (rw (← code) (s .goes)) (inl h)
+module _ {w : Course} {from now : State} {top : Opened} (s : Running w from now top) where
+  pub end-stop : (token : Token) → now .kind ≡ codeOf token → w .stop ≤ now .cur .at → Runs w from (now .list) (now .stack) (Reached (now .cur) token)
+  end-stop token code h = reached (now .cur) token (rw (← code) (s .goes)) (inl h)

@@ -6,8 +6,8 @@ use mathlib.Core.List.{List, [], _∷_, _++_, map, append-nil}
 use mathlib.Core.Bool.{Bool, true, false, cond, not, _&&_, false≢true}
 use native.Mathlib.Omega.{arith}
 use lib.Dec.{leb, eqb}
-use lib.ListN.{take, drop, length, set, getD, length-append, length-drop, length-set, length-take, length-map}
-use lib.Seq.{drop-drop, drop-set-lt}
+use lib.ListN.{take, drop, length, getD, length-append, length-drop, length-take, length-map}
+use lib.Seq.{drop-drop}
 use borrow.Author.Tests.{leb-true, leb-false, eq-eqb, ne-eqb}
 use mathlib.Core.Option.{none, some}
 use Rattle.rules.specs.Text.{keep, all}
@@ -16,14 +16,17 @@ use Rattle.rules.specs.Refusals.{AnotherDue, UnclosedFormat, StackFull, ListFul
 use Rattle.rules.specs.Spans.{span, low, high, spanOf}
 use Rattle.rules.specs.Kinds.{Nothing, between, isSpace, isOpener, isCloser}
 use Rattle.rules.specs.Step.{found, stop, step}
-use Rattle.rules.specs.Lent.{Lexeme, lexeme, placesOf, kindsWith, wordsWith}
+use Rattle.rules.specs.Lent.{Lexeme, lexeme, Arrays, Lent, lent, placesIn, filled, FreeBelow}
 use Rattle.rules.specs.Lexing.{Taken, taken, End, stopped, Trace, noteOf, verdictOf, lexedOf, listing, lexing, ends, after, openAfter, codesAfter, innermost, atEnd, traceFrom, depthAfter, roomAfter, traceIn, lexemesOf, spacesOf, joined, deepestFrom, placed, listedOf, openOf}
-use Rattle.rules.proofs.Trace.{joined-append, placed-append, listed-kept, open-append, open-codes, open-length, deepest-snoc, trace-found, trace-stopped, trace-ended, trace-good, within, within-ends, within-after, within-full-stack, within-full-list, behind, behind-after, behind-ends, kinds-snoc, words-snoc, OnStack, stack-push, stack-pop, stack-top-kind, untouched-more}
+use Rattle.rules.proofs.Trace.{joined-append, placed-append, listed-kept, open-append, open-codes, open-length, deepest-snoc, trace-found, trace-stopped, trace-ended, trace-good, within, within-ends, within-after, within-full-stack, within-full-list, behind, behind-after, behind-ends}
+use Rattle.rules.proofs.Lent.{OnStack, stack-push, stack-pop, stack-top-kind, all-untouched, untouched-later}
 use Rattle.rules.proofs.Text.{decide, keep-append}
 use Rattle.rules.proofs.Spans.{span-of-words}
+use Rattle.list.proofs.Entries.{put-there, put-behind, put-in-untouched}
 use Rattle.lexer.specs.Cursor.{start, advanceOf, noRoomOf}
+use Rattle.lexer.specs.Going.{putIf}
 use Rattle.lexer.specs.declared.Cursor.{Cursor}
-use Rattle.lexer.proofs.Parts.{space-opens, space-closes}
+use Rattle.rules.proofs.SpacesAside.{space-depth}
 
 -- General: one element more, by whether it is kept
 keep-more : {A : Type 0} (p : A → Bool) (xs : List A) (x : A) → p x ≡ true → keep p (xs ++ (x ∷ [])) ≡ keep p xs ++ (x ∷ [])
@@ -74,9 +77,6 @@ depth-closes d k e f = rw (e, f)
 
 pub depth-stays : (d k : ℕ) → isOpener k ≡ false → isCloser k ≡ false → depthAfter d k ≡ d
 depth-stays d k e f = rw (e, f)
-
-pub space-depth : (d k : ℕ) → isSpace k ≡ true → depthAfter d k ≡ d
-space-depth d k e = depth-stays d k (space-opens k e) (space-closes k e)
 
 -- one more is open only after an opener
 pub depth-rest : (d k : ℕ) → isOpener k ≡ false → depthAfter d k ≤ d
@@ -152,10 +152,10 @@ innermost-opens : (os : List ℕ) → all isOpener os ≡ true → 0 < length os
 innermost-opens [] a some-open = absurd (omega arith)
 innermost-opens (k ∷ os) a some-open = decide (isOpener k) (λ e. e) (λ e. absurd (false≢true (rw e at a)))
 
-note-top : (number : ℕ) (os : List Lexeme) (ks ws : List ℕ) → OnStack os ks ws → 0 < length os → between AnotherDue UnclosedFormat number ≡ true →
-    noteOf number os ≡ some (spanOf (getD ws ((length os - 1) * 2) 0) (getD ws ((length os - 1) * 2 + 1) 0))
-note-top number [] ks ws on some-open b = absurd (omega arith)
-note-top number (o ∷ os) ks ws on some-open b =
+note-top : (number : ℕ) (os : List Lexeme) (a : Arrays) → OnStack os a → 0 < length os → between AnotherDue UnclosedFormat number ≡ true →
+    noteOf number os ≡ some (spanOf (getD (a .words) ((length os - 1) * 2) 0) (getD (a .words) ((length os - 1) * 2 + 1) 0))
+note-top number [] a on some-open b = absurd (omega arith)
+note-top number (o ∷ os) a on some-open b =
     let n : suc (length os) - 1 ≡ length os = omega arith in
     rw (n, b, on .1)
 
@@ -201,19 +201,6 @@ counted-snoc doc past p c e h q =
       deepest = sym deepest₁;
     }))
 
--- the arrays after a lexeme that was found: the list has it unless it is a Space, the stack if it opens
-abbrev pub kindsAfter : Cursor → (kind : ℕ) → List ℕ → List ℕ
-kindsAfter c k ks = cond (isSpace k) ks (set ks (c .lexemes) k)
-
-abbrev pub wordsAfter : Cursor → (kind low high : ℕ) → List ℕ → List ℕ
-wordsAfter c k l h ws = cond (isSpace k) ws (set (set ws (c .lexemes * 2) l) (c .lexemes * 2 + 1) h)
-
-abbrev pub stackKindsAfter : Cursor → (kind : ℕ) → List ℕ → List ℕ
-stackKindsAfter c k sk = cond (isOpener k) (set sk (c .depth) k) sk
-
-abbrev pub stackWordsAfter : Cursor → (kind low high : ℕ) → List ℕ → List ℕ
-stackWordsAfter c k l h sw = cond (isOpener k) (set (set sw (c .depth * 2) l) (c .depth * 2 + 1) h) sw
-
 -- the cursor after a lexeme that ends at `e`
 pub record Advanced (c : Cursor) (k e : ℕ) (d : Cursor) : Type 0 where
   pub at : d .at ≡ e
@@ -252,63 +239,29 @@ module _ (doc : ℕ) (past : List Taken) (p : Taken) (o : Lexeme) (here : last d
   listed-more : isSpace (p .kind) ≡ false → listedOf (placed doc 0 (past ++ (p ∷ []))) ≡ listedOf (placed doc 0 past) ++ (o ∷ [])
   listed-more b = rw (placed-snoc doc past p, ← here) (keep-more (λ l. not (isSpace (l .kind))) (placed doc 0 past) (last doc past p) (ap not b))
 
-  kinds-after : (ks ks₀ : List ℕ) → ks ≡ kindsWith (listedOf (placed doc 0 past)) ks₀ → (isSpace (p .kind) ≡ false → c .lexemes < length ks₀) →
-      kindsAfter c (p .kind) ks ≡ kindsWith (listedOf (placed doc 0 (past ++ (p ∷ [])))) ks₀
-  kinds-after ks ks₀ same room =
-      let kind : p .kind ≡ o .kind = ap (λ (x : Lexeme). x .kind) here in
+  list-after : (list list₀ : Lent) → list ≡ filled (listedOf (placed doc 0 past)) list₀ → (isSpace (p .kind) ≡ false → c .lexemes < placesIn list₀) →
+      putIf (not (isSpace (p .kind))) (c .lexemes) o list ≡ filled (listedOf (placed doc 0 (past ++ (p ∷ [])))) list₀
+  list-after list list₀ same room =
       decide (isSpace (p .kind))
       (λ b. rw (b, listed-same b) same)
-      (λ b. rw (b, listed-more b, same, many, kind) (sym (kinds-snoc (listedOf (placed doc 0 past)) o ks₀ (omega (arith, room b)))))
-
-  words-after : (l h : ℕ) (ws ws₀ : List ℕ) → l ≡ low (o .at) → h ≡ high (o .at) → ws ≡ wordsWith (listedOf (placed doc 0 past)) ws₀ →
-      (isSpace (p .kind) ≡ false → c .lexemes * 2 + 1 < length ws₀) →
-      wordsAfter c (p .kind) l h ws ≡ wordsWith (listedOf (placed doc 0 (past ++ (p ∷ [])))) ws₀
-  words-after l h ws ws₀ el eh same room =
-      decide (isSpace (p .kind))
-      (λ b. rw (b, listed-same b) same)
-      (λ b. rw (b, listed-more b, same, many, el, eh) (sym (words-snoc (listedOf (placed doc 0 past)) o ws₀ (omega (arith, room b)))))
+      (λ b. rw (b, listed-more b, same, many) (ap (λ (a : Arrays). lent (a .kinds) (a .words)) (put-behind (listedOf (placed doc 0 past)) o (list₀ .arrays) (omega (arith, room b)))))
 
 -- the stack after one lexeme more
-stack-after : (os : List Lexeme) (o : Lexeme) (sk sw : List ℕ) (l h : ℕ) → OnStack os sk sw → spanOf l h ≡ o .at →
-    (isOpener (o .kind) ≡ true → length os < length sk) → (isOpener (o .kind) ≡ true → length os * 2 + 1 < length sw) →
-    OnStack (openAfter (λ x. x .kind) os o) (cond (isOpener (o .kind)) (set sk (length os) (o .kind)) sk)
-    (cond (isOpener (o .kind)) (set (set sw (length os * 2) l) (length os * 2 + 1) h) sw)
+stack-after : (os : List Lexeme) (o : Lexeme) (stack : Lent) → OnStack os (stack .arrays) → spanOf (low (o .at)) (high (o .at)) ≡ o .at → (isOpener (o .kind) ≡ true → length os < placesIn stack) →
+    OnStack (openAfter (λ x. x .kind) os o) (putIf (isOpener (o .kind)) (length os) o stack .arrays)
 unfolding openAfter
-stack-after os o sk sw l h on e kinds words =
+stack-after os o stack on e room =
     decide (isOpener (o .kind))
-    (λ b. rw b (stack-push os o sk sw l h on (kinds b) (words b) e))
-    (λ b. rw b (decide (isCloser (o .kind)) (λ f. rw f (stack-pop os sk sw on)) (λ f. rw f on)))
+    (λ b. rw (b, put-there (length os) o (stack .arrays) (room b)) (stack-push os o (stack .arrays) on (room b) e))
+    (λ b. rw b (decide (isCloser (o .kind)) (λ f. rw f (stack-pop os (stack .arrays) on)) (λ f. rw f on)))
 
--- past a place that is above what was written, nothing changed
-kinds-untouched : (b : Bool) (d e n k : ℕ) (sk sk₀ : List ℕ) → drop d sk ≡ drop d sk₀ → d ≤ e → (b ≡ true → n < e) → drop e (cond b (set sk n k) sk) ≡ drop e sk₀
-kinds-untouched true d e n k sk sk₀ same le below = drop-set-lt e sk n k (below refl) ∙ untouched-more d e sk sk₀ le same
-kinds-untouched false d e n k sk sk₀ same le below = untouched-more d e sk sk₀ le same
+-- past a place that is above what was put, nothing changed
+untouched-after : (b : Bool) (d e place : ℕ) (l : Lexeme) {stack₀ stack : Lent} → d ≤ e → (b ≡ true → place < e) → FreeBelow d stack₀ stack → FreeBelow e stack₀ (putIf b place l stack)
+untouched-after true d e place l le below u = put-in-untouched e place l (below refl) (untouched-later d e le u)
+untouched-after false d e place l le below u = untouched-later d e le u
 
-words-untouched : (b : Bool) (d e n l h : ℕ) (sw sw₀ : List ℕ) → drop (d * 2) sw ≡ drop (d * 2) sw₀ → d ≤ e → (b ≡ true → n < e) →
-    drop (e * 2) (cond b (set (set sw (n * 2) l) (n * 2 + 1) h) sw) ≡ drop (e * 2) sw₀
-words-untouched true d e n l h sw sw₀ same le below =
-    let lt : n < e = below refl in
-    drop-set-lt (e * 2) (set sw (n * 2) l) (n * 2 + 1) h (omega arith) ∙ drop-set-lt (e * 2) sw (n * 2) l (omega arith)
-    ∙ untouched-more (d * 2) (e * 2) sw sw₀ (omega arith) same
-words-untouched false d e n l h sw sw₀ same le below = untouched-more (d * 2) (e * 2) sw sw₀ (omega arith) same
-
-pub kinds-as-long : (b : Bool) (n k : ℕ) (sk : List ℕ) → length (cond b (set sk n k) sk) ≡ length sk
-kinds-as-long true n k sk = length-set sk n k
-kinds-as-long false n k sk = refl
-
-pub words-as-long : (b : Bool) (n l h : ℕ) (sw : List ℕ) → length (cond b (set (set sw (n * 2) l) (n * 2 + 1) h) sw) ≡ length sw
-words-as-long true n l h sw = simp length-set
-words-as-long false n l h sw = refl
-
-module _ (doc : ℕ) (text ks₀ ws₀ sk₀ sw₀ : List ℕ) where
-  -- the places of the list and of the stack
-  abbrev pub places : ℕ
-  places = placesOf ks₀ ws₀
-
-  abbrev pub stack : ℕ
-  stack = placesOf sk₀ sw₀
-
-  pub record Standing (ks ws sk sw : List ℕ) (c : Cursor) : Type 0 where
+module _ (doc : ℕ) (text : List ℕ) (list₀ stack₀ : Lent) where
+  pub record Standing (list stack : Lent) (c : Cursor) : Type 0 where
     pub small : length text < 2 ^ 48
     pub id : doc < 2 ^ 32
     pub past : List Taken
@@ -316,25 +269,21 @@ module _ (doc : ℕ) (text ks₀ ws₀ sk₀ sw₀ : List ℕ) where
     pub inside : c .at ≤ length text
     -- each step behind has a byte or more
     pub moved : c .lexemes + c .spaces ≤ c .at
-    pub whole : traceIn places stack text ≡ behind past (within stack (c .depth) (places - c .lexemes) (traceFrom (codes doc past) 0 (drop (c .at) text)))
-    pub room : c .lexemes ≤ places
-    pub shallow : c .depth ≤ stack
+    pub whole : traceIn (placesIn list₀) (placesIn stack₀) text ≡ behind past (within (placesIn stack₀) (c .depth) (placesIn list₀ - c .lexemes) (traceFrom (codes doc past) 0 (drop (c .at) text)))
+    pub room : c .lexemes ≤ placesIn list₀
+    pub shallow : c .depth ≤ placesIn stack₀
     pub deeper : c .depth ≤ c .deepest
-    pub deepest : c .deepest ≤ stack
+    pub deepest : c .deepest ≤ placesIn stack₀
     pub openers : all isOpener (codes doc past) ≡ true
-    pub kinds : ks ≡ kindsWith (listedOf (placed doc 0 past)) ks₀
-    pub words : ws ≡ wordsWith (listedOf (placed doc 0 past)) ws₀
-    pub onStack : OnStack (opened doc past) sk sw
-    pub stackKinds : drop (c .deepest) sk ≡ drop (c .deepest) sk₀
-    pub stackWords : drop (c .deepest * 2) sw ≡ drop (c .deepest * 2) sw₀
-    pub stackKindsLength : length sk ≡ length sk₀
-    pub stackWordsLength : length sw ≡ length sw₀
+    pub listed : list ≡ filled (listedOf (placed doc 0 past)) list₀
+    pub onStack : OnStack (opened doc past) (stack .arrays)
+    pub untouched : FreeBelow (c .deepest) stack₀ stack
 
   -- before the first step
-  pub standing-start : doc < 2 ^ 32 → length text < 2 ^ 48 → firstBad text ≡ none → Standing ks₀ ws₀ sk₀ sw₀ start
+  pub standing-start : doc < 2 ^ 32 → length text < 2 ^ 48 → firstBad text ≡ none → Standing list₀ stack₀ start
   unfolding traceIn
   standing-start id small good =
-      let all-left : places - 0 ≡ places = omega arith in
+      let all-left : placesIn list₀ - 0 ≡ placesIn list₀ = omega arith in
       record {
         small = small;
         id = id;
@@ -348,16 +297,12 @@ module _ (doc : ℕ) (text ks₀ ws₀ sk₀ sw₀ : List ℕ) where
         deeper = omega arith;
         deepest = omega arith;
         openers = refl;
-        kinds = refl;
-        words = refl;
+        listed = refl;
         onStack = tt;
-        stackKinds = refl;
-        stackWords = refl;
-        stackKindsLength = refl;
-        stackWordsLength = refl;
+        untouched = all-untouched 0 (stack₀ .arrays);
       }
 
-module _ {doc : ℕ} {text ks₀ ws₀ sk₀ sw₀ ks ws sk sw : List ℕ} {c : Cursor} (s : Standing doc text ks₀ ws₀ sk₀ sw₀ ks ws sk sw c) where
+module _ {doc : ℕ} {text : List ℕ} {list₀ stack₀ list stack : Lent} {c : Cursor} (s : Standing doc text list₀ stack₀ list stack c) where
   -- what the code needs of the counts: none can overflow
   pub record Bounds : Type 0 where
     pub steps : c .lexemes + c .spaces ≤ c .at
@@ -371,19 +316,19 @@ module _ {doc : ℕ} {text ks₀ ws₀ sk₀ sw₀ ks ws sk sw : List ℕ} {c : 
       }
 
   -- the innermost opener, as the stack has it
-  pub top-code : (0 < c .depth) → getD sk (c .depth - 1) 0 ≡ innermost (codes doc (s .past))
-  top-code h = rw (s .counted .depth) (sym (stack-top-kind (opened doc (s .past)) sk sw (s .onStack) (omega (arith, s .counted .depth))))
+  pub top-code : (0 < c .depth) → getD (stack .arrays .kinds) (c .depth - 1) 0 ≡ innermost (codes doc (s .past))
+  top-code h = rw (s .counted .depth) (sym (stack-top-kind (opened doc (s .past)) (stack .arrays) (s .onStack) (omega (arith, s .counted .depth))))
 
   pub top-none : c .depth ≡ 0 → innermost (codes doc (s .past)) ≡ Nothing
   top-none h = ap (λ (os : List Lexeme). innermost (map (λ l. l .kind) os)) (none-open (opened doc (s .past)) (omega (arith, s .counted .depth)))
 
-  pub top-opener : (0 < c .depth) → isOpener (getD sk (c .depth - 1) 0) ≡ true
+  pub top-opener : (0 < c .depth) → isOpener (getD (stack .arrays .kinds) (c .depth - 1) 0) ≡ true
   top-opener h = rw (top-code h) (innermost-opens (codes doc (s .past)) (s .openers) (omega (arith, s .counted .depth, length-map (opened doc (s .past)) (λ l. l .kind))))
 
   -- the note of a refusal: the innermost opener's span, as the stack has it
   pub note-some : (number : ℕ) → 0 < c .depth → between AnotherDue UnclosedFormat number ≡ true →
-      noteOf number (opened doc (s .past)) ≡ some (spanOf (getD sw ((c .depth - 1) * 2) 0) (getD sw ((c .depth - 1) * 2 + 1) 0))
-  note-some number h b = rw (s .counted .depth) (note-top number (opened doc (s .past)) sk sw (s .onStack) (omega (arith, s .counted .depth)) b)
+      noteOf number (opened doc (s .past)) ≡ some (spanOf (getD (stack .arrays .words) ((c .depth - 1) * 2) 0) (getD (stack .arrays .words) ((c .depth - 1) * 2 + 1) 0))
+  note-some number h b = rw (s .counted .depth) (note-top number (opened doc (s .past)) (stack .arrays) (s .onStack) (omega (arith, s .counted .depth)) b)
 
   pub note-none : (number : ℕ) → c .depth ≡ 0 → noteOf number (opened doc (s .past)) ≡ none
   note-none number h = ap (noteOf number) (none-open (opened doc (s .past)) (omega (arith, s .counted .depth)))
@@ -392,8 +337,8 @@ module _ {doc : ℕ} {text ks₀ ws₀ sk₀ sw₀ ks ws sk sw : List ℕ} {c : 
   note-other number b = note-without number (opened doc (s .past)) b
 
   -- the call's answer where it ends here
-  pub answer : (e : End) → traceIn (placesOf ks₀ ws₀) (placesOf sk₀ sw₀) text ≡ record { taken = s .past; end = e } →
-      lexing doc (placesOf ks₀ ws₀) (placesOf sk₀ sw₀) text ≡
+  pub answer : (e : End) → traceIn (placesIn list₀) (placesIn stack₀) text ≡ record { taken = s .past; end = e } →
+      lexing doc (placesIn list₀) (placesIn stack₀) text ≡
       record { verdict = verdictOf doc (c .at) (opened doc (s .past)) e; lexemes = c .lexemes; steps = c .lexemes + c .spaces; kept = c .at - c .dropped; dropped = c .dropped; deepest = c .deepest }
   unfolding lexing lexedOf
   answer e q =
@@ -402,35 +347,35 @@ module _ {doc : ℕ} {text ks₀ ws₀ sk₀ sw₀ ks ws sk sw : List ℕ} {c : 
       let kept : c .at - c .dropped ≡ length (joined (lexemesOf (s .past))) = omega (arith, n .at, n .dropped, parts (s .past)) in
       rw (q, steps, kept, n .at, n .lexemes, n .dropped, n .deepest)
 
-  pub listed : (e : End) → traceIn (placesOf ks₀ ws₀) (placesOf sk₀ sw₀) text ≡ record { taken = s .past; end = e } →
-      listing doc (placesOf ks₀ ws₀) (placesOf sk₀ sw₀) text ≡ listedOf (placed doc 0 (s .past))
+  pub listing-here : (e : End) → traceIn (placesIn list₀) (placesIn stack₀) text ≡ record { taken = s .past; end = e } →
+      listing doc (placesIn list₀) (placesIn stack₀) text ≡ listedOf (placed doc 0 (s .past))
   unfolding listing
-  listed e q = rw q
+  listing-here e q = rw q
 
   -- the trace of the text that is left
   abbrev ahead : Trace
   ahead = traceFrom (codes doc (s .past)) 0 (drop (c .at) text)
 
   -- where the rest gives no further step, the call ends here
-  ends-here : (e : End) → within (placesOf sk₀ sw₀) (c .depth) (placesOf ks₀ ws₀ - c .lexemes) ahead ≡ ends e →
-      traceIn (placesOf ks₀ ws₀) (placesOf sk₀ sw₀) text ≡ record { taken = s .past; end = e }
+  ends-here : (e : End) → within (placesIn stack₀) (c .depth) (placesIn list₀ - c .lexemes) ahead ≡ ends e →
+      traceIn (placesIn list₀) (placesIn stack₀) text ≡ record { taken = s .past; end = e }
   ends-here e q = s .whole ∙ ap (behind (s .past)) q ∙ behind-ends (s .past) e
 
   -- at the text's end
-  pub standing-end : length text ≤ c .at → traceIn (placesOf ks₀ ws₀) (placesOf sk₀ sw₀) text ≡ record { taken = s .past; end = atEnd (codes doc (s .past)) }
+  pub standing-end : length text ≤ c .at → traceIn (placesIn list₀) (placesIn stack₀) text ≡ record { taken = s .past; end = atEnd (codes doc (s .past)) }
   standing-end h =
       ends-here (atEnd (codes doc (s .past)))
       (rw (trace-ended (codes doc (s .past)) (drop (c .at) text) (omega (arith, length-drop (c .at) text)))
-      (within-ends (placesOf sk₀ sw₀) (c .depth) (placesOf ks₀ ws₀ - c .lexemes) (atEnd (codes doc (s .past)))))
+      (within-ends (placesIn stack₀) (c .depth) (placesIn list₀ - c .lexemes) (atEnd (codes doc (s .past)))))
 
   module _ (h : c .at < length text) where
     -- a step that the text refuses
     pub standing-stop : (number from n : ℕ) → step (innermost (codes doc (s .past))) (drop (c .at) text) ≡ stop number from n →
-        traceIn (placesOf ks₀ ws₀) (placesOf sk₀ sw₀) text ≡ record { taken = s .past; end = stopped number from n }
+        traceIn (placesIn list₀) (placesIn stack₀) text ≡ record { taken = s .past; end = stopped number from n }
     standing-stop number from n e =
         ends-here (stopped number from n)
         (rw (trace-stopped (codes doc (s .past)) (drop (c .at) text) number from n (omega (arith, length-drop (c .at) text)) e)
-        (within-ends (placesOf sk₀ sw₀) (c .depth) (placesOf ks₀ ws₀ - c .lexemes) (stopped number from n)))
+        (within-ends (placesIn stack₀) (c .depth) (placesIn list₀ - c .lexemes) (stopped number from n)))
 
     module _ (k n : ℕ) (moves : 0 < n) (fits : c .at + n ≤ length text) (e : step (innermost (codes doc (s .past))) (drop (c .at) text) ≡ found k n) where
       -- the step that was found, and the trace after it
@@ -447,49 +392,49 @@ module _ {doc : ℕ} {text ks₀ ws₀ sk₀ sw₀ ks ws sk sw : List ℕ} {c : 
       now-length = omega (arith, length-take n (drop (c .at) text), length-drop (c .at) text)
 
       -- a lexeme for which there is no room
-      full-stack : isOpener k && leb (placesOf sk₀ sw₀) (c .depth) ≡ true →
-          traceIn (placesOf ks₀ ws₀) (placesOf sk₀ sw₀) text ≡ record { taken = s .past; end = stopped StackFull 0 n }
+      full-stack : isOpener k && leb (placesIn stack₀) (c .depth) ≡ true →
+          traceIn (placesIn list₀) (placesIn stack₀) text ≡ record { taken = s .past; end = stopped StackFull 0 n }
       full-stack a =
           ends-here (stopped StackFull 0 n)
-          (rw now-later (within-full-stack (placesOf sk₀ sw₀) (c .depth) (placesOf ks₀ ws₀ - c .lexemes) now later a ∙ rw now-length))
+          (rw now-later (within-full-stack (placesIn stack₀) (c .depth) (placesIn list₀ - c .lexemes) now later a ∙ rw now-length))
 
-      full-list : isOpener k && leb (placesOf sk₀ sw₀) (c .depth) ≡ false → not (isSpace k) && leb (placesOf ks₀ ws₀) (c .lexemes) ≡ true →
-          traceIn (placesOf ks₀ ws₀) (placesOf sk₀ sw₀) text ≡ record { taken = s .past; end = stopped ListFull 0 n }
+      full-list : isOpener k && leb (placesIn stack₀) (c .depth) ≡ false → not (isSpace k) && leb (placesIn list₀) (c .lexemes) ≡ true →
+          traceIn (placesIn list₀) (placesIn stack₀) text ≡ record { taken = s .past; end = stopped ListFull 0 n }
       full-list a b =
-          let left : ℕ = placesOf ks₀ ws₀ - c .lexemes in
-          let spent : not (isSpace k) && eqb left 0 ≡ true = rw (none-left (placesOf ks₀ ws₀) (c .lexemes)) at b in
-          ends-here (stopped ListFull 0 n) (rw now-later (within-full-list (placesOf sk₀ sw₀) (c .depth) left now later a spent ∙ rw now-length))
+          let left : ℕ = placesIn list₀ - c .lexemes in
+          let spent : not (isSpace k) && eqb left 0 ≡ true = rw (none-left (placesIn list₀) (c .lexemes)) at b in
+          ends-here (stopped ListFull 0 n) (rw now-later (within-full-list (placesIn stack₀) (c .depth) left now later a spent ∙ rw now-length))
 
-      pub standing-full : (number : ℕ) → noRoomOf (placesOf sk₀ sw₀) (placesOf ks₀ ws₀) c k ≡ number → (number ≡ 0 → ⊥) →
-          traceIn (placesOf ks₀ ws₀) (placesOf sk₀ sw₀) text ≡ record { taken = s .past; end = stopped number 0 n }
+      pub standing-full : (number : ℕ) → noRoomOf (placesIn stack₀) (placesIn list₀) c k ≡ number → (number ≡ 0 → ⊥) →
+          traceIn (placesIn list₀) (placesIn stack₀) text ≡ record { taken = s .past; end = stopped number 0 n }
       unfolding noRoomOf
       standing-full number f full =
-          decide (isOpener k && leb (placesOf sk₀ sw₀) (c .depth))
+          decide (isOpener k && leb (placesIn stack₀) (c .depth))
           (λ a. let due : StackFull ≡ number = rw a at f in rw (← due) (full-stack a))
-          (λ a. decide (not (isSpace k) && leb (placesOf ks₀ ws₀) (c .lexemes))
+          (λ a. decide (not (isSpace k) && leb (placesIn list₀) (c .lexemes))
           (λ b. let due : ListFull ≡ number = rw (a, b) at f in rw (← due) (full-list a b))
           (λ b. let due : 0 ≡ number = rw (a, b) at f in absurd (full (sym due))))
 
       -- the whole call's trace, with the step that was found among those behind
-      whole-on : noRoomOf (placesOf sk₀ sw₀) (placesOf ks₀ ws₀) c k ≡ 0 →
-          traceIn (placesOf ks₀ ws₀) (placesOf sk₀ sw₀) text ≡
+      whole-on : noRoomOf (placesIn stack₀) (placesIn list₀) c k ≡ 0 →
+          traceIn (placesIn list₀) (placesIn stack₀) text ≡
           behind (s .past ++ (now ∷ []))
-          (within (placesOf sk₀ sw₀) (advanceOf c k (c .at + n) .depth) (placesOf ks₀ ws₀ - advanceOf c k (c .at + n) .lexemes)
+          (within (placesIn stack₀) (advanceOf c k (c .at + n) .depth) (placesIn list₀ - advanceOf c k (c .at + n) .lexemes)
           (traceFrom (codes doc (s .past ++ (now ∷ []))) 0 (drop (advanceOf c k (c .at + n) .at) text)))
       whole-on f =
-          let stack : ℕ = placesOf sk₀ sw₀ in
-          let left : ℕ = placesOf ks₀ ws₀ - c .lexemes in
+          let places : ℕ = placesIn stack₀ in
+          let left : ℕ = placesIn list₀ - c .lexemes in
           let m : Advanced c k (c .at + n) (advanceOf c k (c .at + n)) = advanced c k (c .at + n) (s .deeper) in
-          let listable : not (isSpace k) && eqb left 0 ≡ false = rw (none-left (placesOf ks₀ ws₀) (c .lexemes)) at (has-room (placesOf sk₀ sw₀) (placesOf ks₀ ws₀) c k f .1) in
-          s .whole ∙ ap (λ (t : Trace). behind (s .past) (within stack (c .depth) left t)) now-later
-          ∙ ap (behind (s .past)) (within-after stack (c .depth) left now later (has-room (placesOf sk₀ sw₀) (placesOf ks₀ ws₀) c k f .0) listable)
-          ∙ behind-after (s .past) now (within stack (depthAfter (c .depth) k) (roomAfter left k) later)
-          ∙ rw (m .depth, ← (room-after (placesOf ks₀ ws₀) c k (c .at + n)), codes-snoc doc (s .past) now, m .at, drop-drop n (c .at) text)
+          let listable : not (isSpace k) && eqb left 0 ≡ false = rw (none-left (placesIn list₀) (c .lexemes)) at (has-room (placesIn stack₀) (placesIn list₀) c k f .1) in
+          s .whole ∙ ap (λ (t : Trace). behind (s .past) (within places (c .depth) left t)) now-later
+          ∙ ap (behind (s .past)) (within-after places (c .depth) left now later (has-room (placesIn stack₀) (placesIn list₀) c k f .0) listable)
+          ∙ behind-after (s .past) now (within places (depthAfter (c .depth) k) (roomAfter left k) later)
+          ∙ rw (m .depth, ← (room-after (placesIn list₀) c k (c .at + n)), codes-snoc doc (s .past) now, m .at, drop-drop n (c .at) text)
 
-      -- a lexeme for which there is room, whose span has these two words
-      pub standing-on : (l hi : ℕ) → noRoomOf (placesOf sk₀ sw₀) (placesOf ks₀ ws₀) c k ≡ 0 → l ≡ low (span doc (c .at) (c .at + n)) → hi ≡ high (span doc (c .at) (c .at + n)) →
-          Standing doc text ks₀ ws₀ sk₀ sw₀ (kindsAfter c k ks) (wordsAfter c k l hi ws) (stackKindsAfter c k sk) (stackWordsAfter c k l hi sw) (advanceOf c k (c .at + n))
-      standing-on l hi f el eh =
+      -- a lexeme for which there is room
+      pub standing-on : noRoomOf (placesIn stack₀) (placesIn list₀) c k ≡ 0 →
+          Standing doc text list₀ stack₀ (putIf (not (isSpace k)) (c .lexemes) (lexeme k (span doc (c .at) (c .at + n))) list) (putIf (isOpener k) (c .depth) (lexeme k (span doc (c .at) (c .at + n))) stack) (advanceOf c k (c .at + n))
+      standing-on f =
           let c₁ : Cursor = advanceOf c k (c .at + n) in
           let past₁ : List Taken = s .past ++ (now ∷ []) in
           let o : Lexeme = lexeme k (span doc (c .at) (c .at + n)) in
@@ -497,9 +442,9 @@ module _ {doc : ℕ} {text ks₀ ws₀ sk₀ sw₀ ks ws sk sw : List ℕ} {c : 
           let counted₁ : Counted doc past₁ c₁ = counted-snoc doc (s .past) now c (c .at + n) (s .counted) (omega (arith, now-length)) in
           let here : last doc (s .past) now ≡ o = rw (now-length, ← (s .counted .at)) in
           let many : c .lexemes ≡ length (listedOf (placed doc 0 (s .past))) = s .counted .lexemes ∙ sym (listed-kept doc 0 (s .past)) in
-          let depth₁ : depthAfter (c .depth) k ≤ placesOf sk₀ sw₀ =
-          decide (isOpener k) (λ b. omega (arith, depth-opens (c .depth) k b, room-stack (placesOf sk₀ sw₀) (placesOf ks₀ ws₀) c k f b)) (λ b. omega (arith, depth-rest (c .depth) k b, s .shallow)) in
-          let spans : spanOf l hi ≡ o .at = rw (el, eh) (span-of-words (o .at) (omega (arith, s .small)) (omega (arith, s .small))) in
+          let depth₁ : depthAfter (c .depth) k ≤ placesIn stack₀ =
+          decide (isOpener k) (λ b. omega (arith, depth-opens (c .depth) k b, room-stack (placesIn stack₀) (placesIn list₀) c k f b)) (λ b. omega (arith, depth-rest (c .depth) k b, s .shallow)) in
+          let words : spanOf (low (o .at)) (high (o .at)) ≡ o .at = span-of-words (o .at) (omega (arith, s .small)) (omega (arith, s .small)) in
           let above : isOpener k ≡ true → c .depth < c₁ .deepest = λ b. omega (arith, depth-opens (c .depth) k b, m .deepest) in
           record {
             small = s .small;
@@ -509,18 +454,14 @@ module _ {doc : ℕ} {text ks₀ ws₀ sk₀ sw₀ ks ws sk sw : List ℕ} {c : 
             inside = omega (arith, m .at);
             moved = omega (arith, m .at, m .steps, s .moved);
             whole = whole-on f;
-            room = decide (isSpace k) (λ b. omega (arith, lexemes-same c k (c .at + n) b, s .room)) (λ b. omega (arith, lexemes-more c k (c .at + n) b, room-list (placesOf sk₀ sw₀) (placesOf ks₀ ws₀) c k f b));
+            room = decide (isSpace k) (λ b. omega (arith, lexemes-same c k (c .at + n) b, s .room)) (λ b. omega (arith, lexemes-more c k (c .at + n) b, room-list (placesIn stack₀) (placesIn list₀) c k f b));
             shallow = omega (arith, m .depth, depth₁);
             deeper = omega (arith, counted₁ .depth, counted₁ .deepest, open-deepest doc 0 [] past₁);
             deepest = omega (arith, m .deepest, s .deepest, depth₁);
             openers = rw (codes-snoc doc (s .past) now) (openers-after (codes doc (s .past)) k (s .openers));
-            kinds = kinds-after doc (s .past) now o here c many ks ks₀ (s .kinds) (λ b. omega (arith, room-list (placesOf sk₀ sw₀) (placesOf ks₀ ws₀) c k f b));
-            words = words-after doc (s .past) now o here c many l hi ws ws₀ el eh (s .words) (λ b. omega (arith, room-list (placesOf sk₀ sw₀) (placesOf ks₀ ws₀) c k f b));
+            listed = list-after doc (s .past) now o here c many list list₀ (s .listed) (λ b. room-list (placesIn stack₀) (placesIn list₀) c k f b);
             onStack = rw (opened-snoc doc (s .past) now, here, s .counted .depth)
-                (stack-after (opened doc (s .past)) o sk sw l hi (s .onStack) spans (λ b. omega (arith, room-stack (placesOf sk₀ sw₀) (placesOf ks₀ ws₀) c k f b, s .counted .depth, s .stackKindsLength))
-                (λ b. omega (arith, room-stack (placesOf sk₀ sw₀) (placesOf ks₀ ws₀) c k f b, s .counted .depth, s .stackWordsLength)));
-            stackKinds = kinds-untouched (isOpener k) (c .deepest) (c₁ .deepest) (c .depth) k sk sk₀ (s .stackKinds) (omega (arith, m .deepest)) above;
-            stackWords = words-untouched (isOpener k) (c .deepest) (c₁ .deepest) (c .depth) l hi sw sw₀ (s .stackWords) (omega (arith, m .deepest)) above;
-            stackKindsLength = kinds-as-long (isOpener k) (c .depth) k sk ∙ s .stackKindsLength;
-            stackWordsLength = words-as-long (isOpener k) (c .depth) l hi sw ∙ s .stackWordsLength;
+                (stack-after (opened doc (s .past)) o stack (s .onStack) words
+                (λ b. omega (arith, room-stack (placesIn stack₀) (placesIn list₀) c k f b, s .counted .depth, s .untouched .kindsLength, s .untouched .wordsLength)));
+            untouched = untouched-after (isOpener k) (c .deepest) (c₁ .deepest) (c .depth) o (omega (arith, m .deepest)) above (s .untouched);
           }

@@ -11,7 +11,8 @@ use Rattle.token.specs.Codes.{codeOf}
 use Rattle.token.specs.declared.Opened.{Opened}
 use Rattle.token.specs.declared.Token.{Token}
 use Rattle.lexer.specs.Cursor.{noRoomOf}
-use Rattle.lexer.specs.Going.{State, stateAt, Course, innermostIn, Goes}
+use Rattle.rules.specs.Lent.{Lent}
+use Rattle.lexer.specs.Going.{State, stateAt, stackCodes, Course, innermostIn, Goes}
 use Rattle.lexer.specs.Memory.{TopState}
 use Rattle.sublexers.specs.Outcome.{Outcome, lexemeTo, refusedAt, outcome, innermostOf}
 use Rattle.lexer.specs.declared.Cursor.{Cursor}
@@ -29,7 +30,7 @@ pub record CanRun (w : Course) (s : State) (top : Opened) : Type 0 where
   pub steps : s .cur .lexemes + s .cur .spaces ≤ w .shift + s .cur .at
   pub dropped : s .cur .dropped ≤ w .shift + s .cur .at
   pub going : w .ends (s .kind) ≡ false
-  pub innermost : TopState (s .cur .depth) (s .sk) top
+  pub innermost : TopState (s .cur .depth) (stackCodes s) top
 
 -- there is no room for a lexeme
 abbrev pub ranFull : Cursor → (at end number : ℕ) → RunEnd
@@ -42,7 +43,7 @@ pub record LoneIf (b : Bool) (text : List ℕ) (at stop : ℕ) (top : Opened) : 
 
 -- the rules' step where a run stands
 abbrev pub dueAt : Course → State → Outcome
-dueAt w s = outcome (s .cur .at) (step (innermostIn (s .cur .depth) (s .sk)) (drop (s .cur .at) (w .text)))
+dueAt w s = outcome (s .cur .at) (step (innermostIn (s .cur .depth) (stackCodes s)) (drop (s .cur .at) (w .text)))
 
 -- that step is refused: by the text, or there is no room for what it finds
 pub data Refuses (w : Course) (s : State) (f : Fault) : Type 0 where
@@ -50,6 +51,6 @@ pub data Refuses (w : Course) (s : State) (f : Fault) : Type 0 where
   byRoom : (k : ℕ) → lexemeTo k (f .end) ≡ dueAt w s → f .number ≡ noRoomOf (w .stack) (w .places) (s .cur) k → (f .number ≡ 0 → ⊥) → f .start ≡ s .cur .at → Refuses w s f
 
 -- what a run says: the steps that it took, and how they ended. They came to their end, the position or a kind, with the last step's token; or to a step that is refused.
-pub data Runs (w : Course) (from : State) (ks′ ws′ sk′ sw′ : List ℕ) : RunEnd → Type 0 where
-  reached : (c : Cursor) (t : Token) → Goes w from (stateAt c (codeOf t) ks′ ws′ sk′ sw′) → (w .stop ≤ c .at) ⊎ (w .ends (codeOf t) ≡ true) → Runs w from ks′ ws′ sk′ sw′ (Reached c t)
-  halted : (c : Cursor) (kind : ℕ) (f : Fault) → Goes w from (stateAt c kind ks′ ws′ sk′ sw′) → c .at < w .stop → w .ends kind ≡ false → Refuses w (stateAt c kind ks′ ws′ sk′ sw′) f → Runs w from ks′ ws′ sk′ sw′ (Halted c f)
+pub data Runs (w : Course) (from : State) (list′ stack′ : Lent) : RunEnd → Type 0 where
+  reached : (c : Cursor) (t : Token) → Goes w from (stateAt c (codeOf t) list′ stack′) → (w .stop ≤ c .at) ⊎ (w .ends (codeOf t) ≡ true) → Runs w from list′ stack′ (Reached c t)
+  halted : (c : Cursor) (kind : ℕ) (f : Fault) → Goes w from (stateAt c kind list′ stack′) → c .at < w .stop → w .ends kind ≡ false → Refuses w (stateAt c kind list′ stack′) f → Runs w from list′ stack′ (Halted c f)

@@ -1,22 +1,22 @@
 -- A single step at a position, given a stack: what its answer means, what it leaves, and the step by its innermost opener alone.
-use Prim.Native.Nat.{ℕ, _+_, _-_, _*_, _≤_, _<_, _^_}
+use Prim.Native.Nat.{ℕ, _+_, _-_, _≤_, _<_, _^_}
 use mathlib.Core.Path.{_≡_}
 use mathlib.Core.List.{List}
 use mathlib.Core.Bool.{Bool, cond, not, _&&_, _||_}
 use mathlib.Core.Option.{Option, none, some}
 use lib.Dec.{leb, ltb, eqb}
-use lib.ListN.{length, drop, set}
+use lib.ListN.{length, drop}
 use Rattle.rules.specs.Refusals.{AnotherDue, UnclosedFormat, StackFull}
-use Rattle.rules.specs.Spans.{Span, span, low, high, nowhere}
+use Rattle.rules.specs.Spans.{Span, span, nowhere}
 use Rattle.rules.specs.Answers.{Answer, given, refused, refuse}
 use Rattle.rules.specs.Kinds.{Nothing, Space, between, isOpener}
 use Rattle.rules.specs.Step.{Step, found, stop, step}
-use Rattle.rules.specs.Lent.{Lexeme as LexemeRule, lexeme, placesOf, lexemesIn, Arrays}
+use Rattle.rules.specs.Lent.{Lexeme as LexemeRule, lexeme, Arrays, arrayPlaces, contents}
 use Rattle.rules.specs.Lexing.{unclosed, depthAfter}
 use Rattle.rules.specs.Walker.{Kept, Walker, Walked, walking}
 use Rattle.source.specs.Meaning.{spanMeant, refusalMeant}
 use Rattle.token.specs.Codes.{codeOf}
-use Rattle.list.specs.Entries.{firstOf}
+use Rattle.list.specs.Entries.{firstOf, putIn}
 use Rattle.lexer.specs.declared.RunEnd.{RunEnd}
 use Rattle.lexer.specs.declared.RunEnd.the-variants.{Reached, Halted}
 use Rattle.lexer.specs.declared.StepAnswer.{StepAnswer}
@@ -65,8 +65,8 @@ abbrev pub movedOf : Walked → Moved
 movedOf r = moved (r .answer) (r .walker .at) (r .walker .depth)
 
 -- the innermost opener of a stack; where nothing is open, a Space at 0-0
-abbrev pub topOf : (depth : ℕ) (kinds words : List ℕ) → LexemeRule
-topOf depth ks ws = cond (eqb depth 0) (lexeme Space nowhere) (firstOf (drop (depth - 1) (lexemesIn ks ws)))
+abbrev pub topOf : (depth : ℕ) → Arrays → LexemeRule
+topOf depth stack = cond (eqb depth 0) (lexeme Space nowhere) (firstOf (drop (depth - 1) (contents stack)))
 
 -- "40 with 0-0", by the code of the innermost opener
 abbrev pub misplacedBy : List ℕ → (at depth places kind : ℕ) → Bool
@@ -101,33 +101,24 @@ movedBy doc text at depth places top =
     cond (leb (length text) at) (moved (endBy (span doc at at) depth top) at depth)
     (stepBy doc at depth places top (step (cond (isOpener (top .kind)) (top .kind) Nothing) (drop at text)))
 
--- the arrays after an answer: an opener that was found is put at the depth before it
-abbrev pub kindsBy : Answer (Option LexemeRule) → (depth : ℕ) (kinds words : List ℕ) → List ℕ
-kindsBy (given (some l)) depth ks ws = cond (isOpener (l .kind) && ltb depth (placesOf ks ws)) (set ks depth (l .kind)) ks
-kindsBy (given none) depth ks ws = ks
-kindsBy (refused r) depth ks ws = ks
-
-abbrev pub wordsBy : Answer (Option LexemeRule) → (depth : ℕ) (kinds words : List ℕ) → List ℕ
-wordsBy (given (some l)) depth ks ws = cond (isOpener (l .kind) && ltb depth (placesOf ks ws)) (set (set ws (depth * 2) (low (l .at))) (depth * 2 + 1) (high (l .at))) ws
-wordsBy (given none) depth ks ws = ws
-wordsBy (refused r) depth ks ws = ws
-
-pub record Writes (a : Answer (Option LexemeRule)) (depth : ℕ) (ks ws ks′ ws′ : List ℕ) : Type 0 where
-  pub kinds : ks′ ≡ kindsBy a depth ks ws
-  pub words : ws′ ≡ wordsBy a depth ks ws
+-- the stack after an answer: an opener that was found is put at the depth before it
+abbrev pub stackBy : Answer (Option LexemeRule) → (depth : ℕ) → Arrays → Arrays
+stackBy (given (some l)) depth stack = cond (isOpener (l .kind)) (putIn depth l stack) stack
+stackBy (given none) depth stack = stack
+stackBy (refused r) depth stack = stack
 
 -- a step in the text, by its innermost opener
-pub record StepsOn (doc : ℕ) (text : List ℕ) (at depth : ℕ) (top : LexemeRule) (ks ws : List ℕ) (r : Stepped) (ks′ ws′ : List ℕ) : Type 0 where
-  pub moves : movedMeant r ≡ movedBy doc text at depth (placesOf ks ws) top
+pub record StepsOn (doc : ℕ) (text : List ℕ) (at depth : ℕ) (top : LexemeRule) (stack : Arrays) (r : Stepped) (stack′ : Arrays) : Type 0 where
+  pub moves : movedMeant r ≡ movedBy doc text at depth (arrayPlaces stack) top
   pub coded : Coded (r .answer)
-  pub writes : Writes (answerMeant (r .answer)) depth ks ws ks′ ws′
+  pub stacked : stack′ ≡ stackBy (answerMeant (r .answer)) depth stack
 
 -- the position lies in a text within the limit, what is open in the stack, and this is innermost
-pub record CanStep (text : List ℕ) (at depth : ℕ) (top : LexemeRule) (ks ws : List ℕ) : Type 0 where
+pub record CanStep (text : List ℕ) (at depth : ℕ) (top : LexemeRule) (stack : Arrays) : Type 0 where
   pub inside : at < length text
   pub small : length text < 2 ^ 48
-  pub shallow : depth ≤ placesOf ks ws
-  pub innermost : top ≡ topOf depth ks ws
+  pub shallow : depth ≤ arrayPlaces stack
+  pub innermost : top ≡ topOf depth stack
 
 -- the fault of a step has a span
 abbrev pub CanPack : RunEnd → Type 0

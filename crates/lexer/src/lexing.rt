@@ -221,7 +221,7 @@ fn lone_space(text: &[u8], at: usize, stop: usize, mode: Mode) -> bool
 
 // The places of the list; where none is kept, more than any text has lexemes.
 fn room(listed: bool, kinds: &[u8], words: &[u64]) -> usize
-    ensures { λ r. ⌜ r ≡ roomOf listed (now (kinds .entry)) (now (words .entry)) ⌝ }
+    ensures { λ r. ⌜ r ≡ roomOf listed (lent (now (kinds .entry)) (now (words .entry))) ⌝ }
 {
     if listed {
         return list::places(kinds, words);
@@ -253,8 +253,8 @@ pub(crate) fn run(
     skinds: &mut [u8],
     swords: &mut [u64],
 ) -> RunEnd
-    requires { ⌜ CanRun (courseOf doc shift (now text) stop listed «to_format» (now kinds) (now words) (now skinds) (now swords)) (stateAt from Space (now kinds) (now words) (now skinds) (now swords)) top ⌝ }
-    ensures { λ r. ⌜ Runs (courseOf doc shift (now (text .entry)) stop listed «to_format» (now (kinds .entry)) (now (words .entry)) (now (skinds .entry)) (now (swords .entry))) (stateAt from Space (now (kinds .entry)) (now (words .entry)) (now (skinds .entry)) (now (swords .entry))) (now (kinds .exit)) (now (words .exit)) (now (skinds .exit)) (now (swords .exit)) r ⌝ }
+    requires { ⌜ CanRun (courseOf doc shift (now text) stop listed «to_format» (lent (now kinds) (now words)) (lent (now skinds) (now swords))) (stateAt from Space (lent (now kinds) (now words)) (lent (now skinds) (now swords))) top ⌝ }
+    ensures { λ r. ⌜ Runs (courseOf doc shift (now (text .entry)) stop listed «to_format» (lent (now (kinds .entry)) (now (words .entry))) (lent (now (skinds .entry)) (now (swords .entry)))) (stateAt from Space (lent (now (kinds .entry)) (now (words .entry))) (lent (now (skinds .entry)) (now (swords .entry)))) (lent (now (kinds .exit)) (now (words .exit))) (lent (now (skinds .exit)) (now (swords .exit))) r ⌝ }
 {
     let places = room(listed, kinds, words);
     let stack = list::places(skinds, swords);

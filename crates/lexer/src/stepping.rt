@@ -21,7 +21,7 @@ use source::Span;
 
 // The innermost opener; where nothing is open, a Space at 0-0.
 fn top(skinds: &[u8], swords: &[u64], depth: usize) -> Entry
-    ensures { λ r. ⌜ entryMeant r ≡ topOf depth (now (skinds .entry)) (now (swords .entry)) ⌝ }
+    ensures { λ r. ⌜ entryMeant r ≡ topOf depth (arrays (now (skinds .entry)) (now (swords .entry))) ⌝ }
 {
     if depth == 0 {
         return Entry {
@@ -97,8 +97,8 @@ fn step_on(
     skinds: &mut [u8],
     swords: &mut [u64],
 ) -> Stepped
-    requires { ⌜ CanStep (now text) position depth (entryMeant opener) (now skinds) (now swords) ⌝ }
-    ensures { λ r. ⌜ StepsOn doc (now (text .entry)) position depth (entryMeant opener) (now (skinds .entry)) (now (swords .entry)) r (now (skinds .exit)) (now (swords .exit)) ⌝ }
+    requires { ⌜ CanStep (now text) position depth (entryMeant opener) (arrays (now skinds) (now swords)) ⌝ }
+    ensures { λ r. ⌜ StepsOn doc (now (text .entry)) position depth (entryMeant opener) (arrays (now (skinds .entry)) (now (swords .entry))) r (arrays (now (skinds .exit)) (now (swords .exit))) ⌝ }
 {
     let from = Cursor {
         at: position,

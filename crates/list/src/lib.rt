@@ -1,8 +1,8 @@
 // A list of lexemes or of parts in two lent arrays: a kind code for each, and the two words of its span. Its places are the smaller of the first length and half the second.
 ghost use mathlib.Core.Path.{_≡_};
 ghost use lib.ListN.{length, take, drop};
-ghost use Rattle.rules.specs.Lent.{placesOf, lexemesIn};
-ghost use Rattle.list.specs.Entries.{entryMeant, firstOf, PutAt};
+ghost use Rattle.rules.specs.Lent.{placesOf, lexemesIn, arrays};
+ghost use Rattle.list.specs.Entries.{entryMeant, firstOf, putIn};
 use rules::kind;
 use source::Span;
 
@@ -47,7 +47,7 @@ pub fn get(kinds: &[u8], words: &[u64], place: usize) -> Entry
 
 // Writes an entry at a place; past the places nothing is written.
 pub fn put(kinds: &mut [u8], words: &mut [u64], place: usize, entry: Entry)
-    ensures { λ _. ⌜ PutAt place (entryMeant entry) (now (kinds .entry)) (now (words .entry)) (now (kinds .exit)) (now (words .exit)) ⌝ }
+    ensures { λ _. ⌜ arrays (now (kinds .exit)) (now (words .exit)) ≡ putIn place (entryMeant entry) (arrays (now (kinds .entry)) (now (words .entry))) ⌝ }
 {
     let n = places(kinds, words);
     if n <= place {

@@ -11,7 +11,7 @@ use Rattle.rules.specs.Spans.{Span, span, nowhere, isBad}
 use Rattle.rules.specs.Answers.{Refusal, Answer, given, refused, refuse, Verdict, accepted, verdictOn, andThen, firstRefusal, unlessRefused}
 use Rattle.rules.specs.Source.{resolved}
 use Rattle.rules.specs.Kinds.{isQuoteOpen, isEscape}
-use Rattle.rules.specs.Lent.{Lexeme, placesOf, lexemesIn, lexemesFrom, arrays}
+use Rattle.rules.specs.Lent.{Lexeme, Arrays, arrayPlaces, contents, lexemesFrom}
 use Rattle.rules.specs.Output.{endOf, Piece, piece, Written, written, overwritten}
 use Rattle.rules.specs.Escapes.{singleScalar, unicodeScalar, scalarOf, escapeScalar, wroteAll, scalarPut, unescape}
 use Rattle.rules.specs.Parts.{Effect, closes, refuses, passes, yields, Parts, noParts, followEffect, effect, partsFrom, partsOf, inRoom, partsIn, partsCall}
@@ -102,10 +102,10 @@ note-part : (text : List ℕ) (p : Lexeme) → Noteless (partVerdict text p)
 unfolding partVerdict
 note-part text p = search (note-cond, note-given, note-refuse) depth 40
 
-pub note-indent : (text ks ws : List ℕ) (n : ℕ) → Noteless (indentCall text (arrays ks ws) n)
+pub note-indent : (text : List ℕ) (list : Arrays) (n : ℕ) → Noteless (indentCall text list n)
 unfolding indentCall
-note-indent text ks ws n =
-    let ps = take n (lexemesIn ks ws) in
+note-indent text list n =
+    let ps = take n (contents list) in
     note-then (firstRefusal (partVerdict text) ps) (given (indentOf text ps)) (note-first (partVerdict text) ps (note-part text)) (note-given (indentOf text ps))
 
 -- parts
@@ -137,9 +137,9 @@ pub note-in : (room place : ℕ) (ls : List Lexeme) → Noteless (partsIn room p
 unfolding partsIn
 note-in room place ls = note-room room (partsOf place ls .found) (partsOf place ls .answer) (note-of place ls)
 
-pub note-parts : (ks ws : List ℕ) (count place : ℕ) (pks pws : List ℕ) → Noteless (partsCall (arrays ks ws) count place (arrays pks pws) .answer)
+pub note-parts : (list : Arrays) (count place : ℕ) (parts : Arrays) → Noteless (partsCall list count place parts .answer)
 unfolding partsCall
-note-parts ks ws count place pks pws = note-in (placesOf pks pws) place (lexemesFrom (arrays ks ws) count place)
+note-parts list count place parts = note-in (arrayPlaces parts) place (lexemesFrom list count place)
 
 -- values
 note-escape : (text : List ℕ) (p : Lexeme) → Noteless (escapeVerdict text p)
@@ -175,12 +175,12 @@ note-value-of text ls p out at h =
     (note-then inside escapes (note-first (partVerdict text) ps (note-part text)) (note-first (escapeVerdict text) ps (note-escape text))))
     (note-value-written text indent ps out at)
 
-pub note-value : (text ks ws : List ℕ) (count place : ℕ) (pks pws out : List ℕ) (at : ℕ) → Noteless (valueCall text (arrays ks ws) count place (arrays pks pws) out at .answer)
+pub note-value : (text : List ℕ) (list : Arrays) (count place : ℕ) (parts : Arrays) (out : List ℕ) (at : ℕ) → Noteless (valueCall text list count place parts out at .answer)
 unfolding valueCall
-note-value text ks ws count place pks pws out at =
-    let ls = lexemesFrom (arrays ks ws) count place in
-    let p = partsIn (placesOf pks pws) place ls in
-    note-value-of text ls p out at (note-in (placesOf pks pws) place ls)
+note-value text list count place parts out at =
+    let ls = lexemesFrom list count place in
+    let p = partsIn (arrayPlaces parts) place ls in
+    note-value-of text ls p out at (note-in (arrayPlaces parts) place ls)
 
 -- handing back
 note-resolved : (text : List ℕ) (s : Span) → Noteless (resolved text s)

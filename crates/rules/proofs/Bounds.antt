@@ -7,13 +7,15 @@ use mathlib.Core.Path.{_≡_, refl}
 use mathlib.Core.List.{List, [], _∷_}
 use mathlib.Core.Bool.{Bool, true, false, cond, _&&_, _||_, false≢true, true≢false}
 use native.Mathlib.Omega.{arith}
-use lib.Dec.{leb, eqb, leb→le, eqb→eq}
+use lib.Dec.{leb, eqb, leb→le}
 use lib.ListN.{drop, getD, length, length-drop}
 use Rattle.rules.specs.Text.{is, begins, same, starts, run, count}
 use Rattle.rules.specs.Bytes.{isWhitespace, isDigit, isLetter, isOver127, isIdentifierByte, isHexDigit, isNotLF}
 use Rattle.rules.specs.Utf8.{isTail}
 use Rattle.rules.specs.Kinds.{Pipe, isQuoteOpen, isFormat, isTriple}
 use Rattle.rules.specs.Step.{Step, found, stop, isUnderscore, isDigitOrUnderscore, intLength, exponentMark, exponent, fraction, decimal, prefixed, number, giveBack, identifierLength, keywordOrIdent, identifier, whitespace, closer, monograph, punctuation, outside, unicodeDelim, unicode4, singleEscape, isInner, closesQuote, inside, step}
+use Rattle.rules.proofs.Text.{and-left, and-right, is-code}
+use Rattle.rules.proofs.Runs.{run-le}
 
 -- Tests, by their value
 cond-le : (b : Bool) (x y n : ℕ) → x ≤ n → y ≤ n → cond b x y ≤ n
@@ -24,32 +26,17 @@ le-cond : (b : Bool) (x y n : ℕ) → n ≤ x → n ≤ y → n ≤ cond b x y
 le-cond true x y n p q = p
 le-cond false x y n p q = q
 
-and-left : (a b : Bool) → a && b ≡ true → a ≡ true
-and-left true b e = refl
-and-left false b e = e
-
-and-right : (a b : Bool) → a && b ≡ true → b ≡ true
-and-right true b e = e
-and-right false b e = absurd (false≢true e)
-
-is-of : (c : Char) (b : ℕ) → is c b ≡ true → b ≡ code c
-is-of c b e = eqb→eq b (code c) (rw e tt)
-
 le-of : (m n : ℕ) → leb m n ≡ true → m ≤ n
 le-of m n e = leb→le m n (rw e tt)
 
 -- Bounds of what is read off the front of a text
-pub run-length : (p : ℕ → Bool) (s : List ℕ) → run p s ≤ length s
-run-length p [] = zero-le
-run-length p (b ∷ s) = cond-le (p b) (suc (run p s)) 0 _ (omega (arith, run-length p s)) zero-le
-
 pub run-some : (p : ℕ → Bool) (s : List ℕ) → starts p s ≡ true → 0 < run p s
 run-some p [] e = absurd (false≢true e)
 run-some p (b ∷ s) e = rw e (omega arith)
 
 -- a run after so many bytes
 pub run-after : (p : ℕ → Bool) (m : ℕ) (s : List ℕ) → m ≤ length s → m + run p (drop m s) ≤ length s
-run-after p m s h = omega (arith, run-length p (drop m s), length-drop m s)
+run-after p m s h = omega (arith, run-le p (drop m s), length-drop m s)
 
 pub count-length : (p : ℕ → Bool) (s : List ℕ) → count p s ≤ length s
 count-length p [] = zero-le
@@ -187,15 +174,15 @@ inside-quoted t s k n e p q = inside-found (length s) k n (le-of 1 n p) (omega (
 
 -- a run at the front of a text
 inside-run : (p : ℕ → Bool) (s : List ℕ) (k : ℕ) → starts p s ≡ true → Inside (length s) (found k (run p s))
-inside-run p s k e = inside-found (length s) k (run p s) (run-some p s e) (run-length p s)
+inside-run p s k e = inside-found (length s) k (run p s) (run-some p s e) (run-le p s)
 
 inside-stop-run : (p : ℕ → Bool) (s : List ℕ) (number : ℕ) → Inside (length s) (stop number 0 (run p s))
-inside-stop-run p s number = inside-stop (length s) number 0 (run p s) (omega (arith, run-length p s))
+inside-stop-run p s number = inside-stop (length s) number 0 (run p s) (omega (arith, run-le p s))
 
 -- a line: a quoted text that no line end begins, and on to before the next
 line-some : (c : Char) (t : String) (s : List ℕ) → isNotLF (code c) ≡ true → begins (S._∷_ c t) s ≡ true → starts isNotLF s ≡ true
 line-some c t [] p e = absurd (false≢true e)
-line-some c t (b ∷ s) p e = rw (is-of c b (and-left (is c b) (begins t s) e)) p
+line-some c t (b ∷ s) p e = rw (is-code c b (and-left (is c b) (begins t s) e)) p
 
 -- Numbers
 exponentMark-length : (s : List ℕ) → begins "e" s || begins "E" s ≡ true → exponentMark s ≤ length s
@@ -224,7 +211,7 @@ inside-fraction most n s p q =
     (λ f. inside-stop most _ n 1 (omega arith)))
     (λ e. inside-exponent most n s p q)
 
-digit-number : (s : List ℕ) → starts isDigit s ≡ true → starts isDigitOrUnderscore s ≡ true
+pub digit-number : (s : List ℕ) → starts isDigit s ≡ true → starts isDigitOrUnderscore s ≡ true
 unfolding isDigitOrUnderscore
 digit-number [] e = e
 digit-number (b ∷ s) e = rw e
@@ -234,7 +221,7 @@ unfolding intLength
 intLength-inside s e =
     let h = starts-length isDigit s e in (
       le-cond (begins "0" s) 1 (run isDigitOrUnderscore s) 1 (omega arith) (run-some isDigitOrUnderscore s (digit-number s e)),
-      cond-le (begins "0" s) 1 (run isDigitOrUnderscore s) _ h (run-length isDigitOrUnderscore s),
+      cond-le (begins "0" s) 1 (run isDigitOrUnderscore s) _ h (run-le isDigitOrUnderscore s),
     )
 
 inside-prefixed : (kind refusal : ℕ) (p : ℕ → Bool) (s : List ℕ) → 2 ≤ length s → Inside (length s) (prefixed kind refusal p s)
@@ -258,7 +245,7 @@ unfolding isLetter
 letter-not-minus b e = go (is "-" b) refl
   where
     go : (t : Bool) → is "-" b ≡ t → is "-" b ≡ false
-    go true f = let z : _≡_ {A = Bool} false true = rw (is-of "-" b f) at e in absurd (false≢true z)
+    go true f = let z : _≡_ {A = Bool} false true = rw (is-code "-" b f) at e in absurd (false≢true z)
     go false f = f
 
 identifier-some : (s : List ℕ) → starts isLetter s ≡ true → 0 < identifierLength s
@@ -268,7 +255,7 @@ identifier-some (b ∷ s) e = rw e (giveBack-some (b ∷ s) (run isIdentifierByt
 
 inside-identifier : (s : List ℕ) → starts isLetter s ≡ true → Inside (length s) (identifier s)
 unfolding identifier identifierLength
-inside-identifier s e = inside-found (length s) _ _ (identifier-some s e) (omega (arith, giveBack-le s (run isIdentifierByte s), run-length isIdentifierByte s))
+inside-identifier s e = inside-found (length s) _ _ (identifier-some s e) (omega (arith, giveBack-le s (run isIdentifierByte s), run-le isIdentifierByte s))
 
 inside-whitespace : (s : List ℕ) → starts isWhitespace s ≡ true → Inside (length s) (whitespace s)
 unfolding whitespace

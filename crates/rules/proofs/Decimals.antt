@@ -19,6 +19,7 @@ use Rattle.rules.specs.Step.{Step, found, stop, isDigitOrUnderscore, int
 use Rattle.rules.specs.Decimals.{DIGIT, digit1-9, Digits, none as no-digit, more, Digits1, some as digits, Int, zero as int-zero, nonzero, Frac, no-frac, frac, E, lower, upper, Sign, no-sign, minus, plus, Exp, no-exp, exp, Unsigned, unsigned, withoutUnderscores}
 use Rattle.rules.specs.Lexing.{taken, ended, ends, openAfter, traceFrom, trace}
 use Rattle.rules.proofs.Text.{decide, branch, either, is-code, is-another, starts-append, run-append, run-all, all-append, keep-append}
+use Rattle.rules.proofs.Steps.{length-of, refuted}
 
 -- Digits. A digit is no other byte
 digit-is : (c : Char) (b : ℕ) → DIGIT b → within "0" "9" (code c) ≡ false → is c b ≡ false
@@ -61,13 +62,6 @@ run-digits1 (b ∷ s) d = rw (d, digit-is "_" b d refl) (digits d (run-digits s)
 without-add : (m n : ℕ) (s : List ℕ) → withoutUnderscores (take (m + n) s) ≡ withoutUnderscores (take m s) ++ withoutUnderscores (take n (drop m s))
 without-add m n s = rw (take-add m n s, keep-append)
 
--- two lexemes that are the same have one length, and a refusal is no lexeme
-length-of : {a b k n : ℕ} → found a b ≡ found k n → b ≡ n
-length-of e = cc
-
-not-stop : {P : Type 0} {a b c k n : ℕ} → stop a b c ≡ found k n → P
-not-stop e = let z : _≡_ {A = ℕ} 0 1 = cc in absurd (omega arith)
-
 -- e or E, perhaps a sign, and the digits after them
 mark-exp : (b : ℕ) (s : List ℕ) → E (b ∷ []) → is "_" b ≡ false → starts isDigit (drop (exponentMark (b ∷ s)) (b ∷ s)) ≡ true
     → Exp (withoutUnderscores (take (exponentMark (b ∷ s)) (b ∷ s)) ++ digitsOf (drop (exponentMark (b ∷ s)) (b ∷ s)))
@@ -95,7 +89,7 @@ unfolding exponent
 exponent-reads n s k e = branch (begins "e" s || begins "E" s) e
     (λ t e. branch (starts isDigit (drop (exponentMark s) s)) e
     (λ d e. (exponentMark s + run isDigitOrUnderscore (drop (exponentMark s) s), omega (arith, length-of e), rw without-add (begins-exp s t d)))
-    (λ d e. not-stop e))
+    (λ d e. refuted e))
     (λ t e. (0, omega (arith, length-of e), no-exp))
 
 begins-frac : (s : List ℕ) → begins "." s ≡ true → starts isDigit (drop 1 s) ≡ true → Frac (withoutUnderscores (take (suc (run isDigitOrUnderscore (drop 1 s))) s))
@@ -109,7 +103,7 @@ fraction-reads n s k e = branch (begins "." s) e
     (λ d e. let m = suc (run isDigitOrUnderscore (drop 1 s)) in
     let x = exponent-reads (n + m) (drop m s) k e in
     (m + x .0, omega arith, rw without-add (both (begins-frac s t d) (x .2))))
-    (λ d e. not-stop e))
+    (λ d e. refuted e))
     (λ t e. let x = exponent-reads n s k e in (x .0, x .1, both no-frac (x .2)))
 
 int-reads : (s : List ℕ) → starts isDigit s ≡ true → Int (withoutUnderscores (take (intLength s) s))
@@ -144,7 +138,7 @@ conforms-found : (s : List ℕ) (k m : ℕ) → Other k → Conforms s (found k 
 conforms-found s k m o = record { each = λ n e. let same : k ≡ NumDecimal = cc in absurd (eqb-false k NumDecimal (o .differs) same) }
 
 conforms-stop : (s : List ℕ) (a b c : ℕ) → Conforms s (stop a b c)
-conforms-stop s a b c = record { each = λ n e. not-stop e }
+conforms-stop s a b c = record { each = λ n e. refuted e }
 
 conforms-cond : (s : List ℕ) (b : Bool) (x y : Step) → Conforms s x → Conforms s y → Conforms s (cond b x y)
 conforms-cond s true x y p q = p

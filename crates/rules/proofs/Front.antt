@@ -12,10 +12,11 @@ use Rattle.rules.specs.Utf8.{firstBad}
 use Rattle.rules.specs.Refusals.{TooLong, StackFull, ListFull}
 use Rattle.rules.specs.Kinds.{isSpace, isOpener}
 use Rattle.rules.specs.Spans.{limit, bytesAt}
-use Rattle.rules.specs.Step.{Step, found, stop, step}
+use Rattle.rules.specs.Step.{found, step}
 use Rattle.rules.specs.Lexing.{Taken, taken, End, stopped, Trace, ends, after, codesAfter, innermost, atEnd, traceFrom, unlessNotUtf8, trace, meetsNoRefusal, depthAfter, openAfterAll, roomAfter, limited, traceIn, joined, placed}
 use Rattle.rules.proofs.Bounds.{found-inside}
 use Rattle.rules.proofs.Trace.{open-length, joined-append}
+use Rattle.rules.proofs.Steps.{step-cases}
 
 -- steps where these codes are open before them and `rest` is left after them: each is what the step rule finds there, and has a byte
 abbrev pub Steps : (rest openers : List ℕ) → List Taken → Type 0
@@ -31,11 +32,6 @@ pub record Walked (openers s : List ℕ) (t : Trace) : Type 0 where
   pub whole : joined (t .taken) ++ rest ≡ s
   pub steps : Steps rest openers (t .taken)
   pub nothingLeft : meetsNoRefusal (t .end) ≡ true → (rest ≡ []) × (openAfterAll (length openers) (t .taken) ≡ 0)
-
--- a step, by what it answers
-step-cases : {P : Type 0} (r : Step) → ((k n : ℕ) → r ≡ found k n → P) → ((number from n : ℕ) → r ≡ stop number from n → P) → P
-step-cases (found k n) f g = f k n refl
-step-cases (stop number from n) f g = g number from n refl
 
 -- no step, and nothing left
 walked-end : (openers : List ℕ) → Walked openers [] (ends (atEnd openers))

@@ -13,12 +13,16 @@ pub mod Spans
 -- UTF-8: the function by position, and the RFC's grammar
 pub mod Utf8
 pub mod Rfc3629
+-- what a step answers, by its two cases
+pub mod Steps
 -- one step stays inside the text
 pub mod Bounds
 -- RFC 8259's decimals
 pub mod Decimals
--- the steps of a text as a loop meets them, and the lent arrays
+-- the steps of a text as a loop meets them
 pub mod Trace
+-- lent memory: one lexeme more, what is on a stack, what is untouched
+pub mod Lent
 -- lexemes in lent arrays, read back
 pub mod Listed
 -- the steps of any text, in any lent memory, are a front of it

@@ -4,9 +4,16 @@ use native.Mathlib.Omega.{arith}
 use mathlib.Core.Path.{_≡_, refl, ap}
 use mathlib.Core.List.{List, [], _∷_}
 use lib.ListN.{length, take, drop}
-use Rattle.rules.specs.Lent.{Lexeme, Arrays, arrays, placesOf, arrayPlaces, lexemesIn, contents, lexemesFrom, kindsWith, wordsWith, holding, lent}
+use Rattle.rules.specs.Lent.{Lexeme, Arrays, placesOf, arrayPlaces, lexemesIn, contents, lexemesFrom, kindsWith, wordsWith, holding}
 use Rattle.rules.proofs.Arithmetic.{suc-double}
 use Rattle.rules.proofs.Spans.{span-of-words}
+
+-- as many lexemes stand in the arrays as there are places
+pub places-length : (ks ws : List ℕ) → length (lexemesIn ks ws) ≡ placesOf ks ws
+places-length [] ws = omega arith
+places-length (k ∷ ks) [] = omega arith
+places-length (k ∷ ks) (l ∷ []) = omega arith
+places-length (k ∷ ks) (l ∷ (h ∷ ws)) = omega (arith, places-length ks ws)
 
 -- every span of some lexemes starts and ends within the limit, so that its two words name it
 abbrev pub AllWords : List Lexeme → Type 0
@@ -30,10 +37,3 @@ contents-holding ps a room small = lexemes-with ps (a .kinds) (a .words) room sm
 -- so are those from a place on
 pub lexemes-from-holding : (ps : List Lexeme) (a : Arrays) (place : ℕ) → length ps ≤ arrayPlaces a → AllWords ps → lexemesFrom (holding ps a) (length ps) place ≡ drop place ps
 lexemes-from-holding ps a place room small = ap (λ (r : List Lexeme). drop place r) (contents-holding ps a room small)
-
--- arrays, or what is lent, are the same by each array
-pub same-arrays : {ks ks′ ws ws′ : List ℕ} → ks ≡ ks′ → ws ≡ ws′ → arrays ks ws ≡ arrays ks′ ws′
-same-arrays e f = rw (e, f)
-
-pub same-lent : {ks ks′ ws ws′ : List ℕ} → ks ≡ ks′ → ws ≡ ws′ → lent ks ws ≡ lent ks′ ws′
-same-lent e f = rw (e, f)

@@ -11,13 +11,14 @@ use lib.Seq.{take-at, drop-at}
 use Rattle.rules.specs.Refusals.{TooLong}
 use Rattle.rules.specs.Spans.{Span, span, limit, bytesFrom, bytesAt}
 use Rattle.rules.specs.Kinds.{isSpace}
-use Rattle.rules.specs.Lent.{Lexeme, lexeme}
+use Rattle.rules.specs.Lent.{Lexeme, lexeme, arrayPlaces, Lent, placesIn}
 use Rattle.rules.specs.Lexing.{Taken, End, ended, stopped, ends, trace, accepts, meetsNoRefusal, traceIn, lexemesOf, joined, placed, listedOf, listing}
 use Rattle.rules.proofs.Text.{decide}
 use Rattle.rules.proofs.Trace.{joined-append, listed-kept, trace-long}
 use Rattle.rules.proofs.Listed.{AllWords}
 use Rattle.rules.proofs.Front.{front-limited}
 use Rattle.rules.proofs.SpacesAside.{limited-room}
+use Rattle.rules.proofs.Lent.{places-arrays}
 
 -- a span of a document that lies in the text and is not bad
 pub record Inside (text : List ℕ) (doc : ℕ) (s : Span) : Type 0 where
@@ -71,9 +72,13 @@ listing-shows text doc places stack short whole =
     placed-shows text doc 0 [] steps (joined (front .later)) short refl (sym (joined-append steps (front .later)) ∙ (ap joined (front .same) ∙ whole))
 
 -- and has room in the list
-pub listing-room : (text : List ℕ) (doc places stack : ℕ) → length (listing doc places stack text) ≤ places
+listing-most : (text : List ℕ) (doc places stack : ℕ) → length (listing doc places stack text) ≤ places
 unfolding listing traceIn
-listing-room text doc places stack = omega (arith, listed-kept doc 0 ((traceIn places stack text) .taken), limited-room stack 0 places ((trace text) .taken) ((trace text) .end))
+listing-most text doc places stack = omega (arith, listed-kept doc 0 ((traceIn places stack text) .taken), limited-room stack 0 places ((trace text) .taken) ((trace text) .end))
+
+-- so what is listed stands in the arrays that are lent for it
+pub listing-room : (text : List ℕ) (doc : ℕ) (list : Lent) (stack : ℕ) → length (listing doc (placesIn list) stack text) ≤ arrayPlaces (list .arrays)
+listing-room text doc list stack = omega (arith, listing-most text doc (placesIn list) stack, places-arrays list)
 
 -- What follows of such lists
 -- the same kinds

@@ -13,14 +13,18 @@ use Rattle.rules.specs.Lexing.{Taken, End, stopped, Trace, ends, after, 
 use Rattle.rules.proofs.Text.{decide}
 
 -- a Space opens nothing
-pub space-opens-nothing : (k : ℕ) → isSpace k ≡ true → isOpener k ≡ false
+pub space-opens : (k : ℕ) → isSpace k ≡ true → isOpener k ≡ false
 unfolding isOpener
-space-opens-nothing k e = rw (eqb-true k Space e)
+space-opens k e = rw (eqb-true k Space e)
 
 -- and closes nothing
-pub space-closes-nothing : (k : ℕ) → isSpace k ≡ true → isCloser k ≡ false
+pub space-closes : (k : ℕ) → isSpace k ≡ true → isCloser k ≡ false
 unfolding isCloser
-space-closes-nothing k e = rw (eqb-true k Space e)
+space-closes k e = rw (eqb-true k Space e)
+
+-- so as many are open after it as before
+pub space-depth : (depth k : ℕ) → isSpace k ≡ true → depthAfter depth k ≡ depth
+space-depth depth k e = rw (space-opens k e, space-closes k e)
 
 -- steps that have the lexemes of the first as their steps, and the same end
 pub record SpacesAside (t u : Trace) : Type 0 where
@@ -45,7 +49,7 @@ pub limited-lexemes : (stack depth room : ℕ) (ps : List Taken) (e : End) → S
 unfolding limited
 limited-lexemes stack depth room [] e = aside-ends e
 limited-lexemes stack depth room (p ∷ ps) e = decide (isSpace (p .kind))
-    (λ s. rw (s, space-opens-nothing (p .kind) s, space-closes-nothing (p .kind) s) (aside-space p _ _ s (limited-lexemes stack depth room ps e)))
+    (λ s. rw (s, space-opens (p .kind) s, space-closes (p .kind) s) (aside-space p _ _ s (limited-lexemes stack depth room ps e)))
     (λ s.
     let kept : lexemesOf (p ∷ ps) ≡ p ∷ lexemesOf ps = rw s in
     rw kept

@@ -3,7 +3,7 @@ use Prim.Native.Nat.{ℕ, suc}
 use Prim.Native.Char.{Char, code}
 use mathlib.Core.Path.{_≡_, refl, sym, ap, _∙_}
 use mathlib.Core.List.{List, [], _∷_, _++_, append-nil}
-use mathlib.Core.Bool.{Bool, true, false, cond, _&&_, _||_, false≢true, true≢false}
+use mathlib.Core.Bool.{Bool, true, false, cond, _&&_, _||_, false≢true, true≢false, Bool·beq}
 use borrow.Author.Tests.{eqb-true}
 use lib.ListN.{length}
 use Rattle.rules.specs.Text.{is, starts, run, all, keep}
@@ -22,6 +22,27 @@ both false b e = absurd (false≢true e)
 pub neither : (a b : Bool) → a || b ≡ false → (a ≡ false) × (b ≡ false)
 neither true b e = absurd (true≢false e)
 neither false b e = (refl, e)
+
+-- of two tests that both pass, each does
+pub and-left : (a b : Bool) → a && b ≡ true → a ≡ true
+and-left a b e = both a b e .0
+
+pub and-right : (a b : Bool) → a && b ≡ true → b ≡ true
+and-right a b e = both a b e .1
+
+-- of two tests of which none passes, each fails
+pub or-left : (a b : Bool) → a || b ≡ false → a ≡ false
+or-left a b e = neither a b e .0
+
+pub or-right : (a b : Bool) → a || b ≡ false → b ≡ false
+or-right a b e = neither a b e .1
+
+-- two truth values that compare as equal are
+pub same-truth : (a b : Bool) → Bool·beq a b ≡ true → a ≡ b
+same-truth true true e = refl
+same-truth true false e = sym e
+same-truth false true e = e
+same-truth false false e = refl
 
 -- a branch, by its test
 pub branch : {A P : Type 0} (b : Bool) {x y z : A} → cond b x y ≡ z → (b ≡ true → x ≡ z → P) → (b ≡ false → y ≡ z → P) → P

@@ -1,5 +1,5 @@
 -- The steps of a text as a loop meets them: one step more of the trace, and what is listed, counted and open after one more.
-use Prim.Native.Nat.{ℕ, zero, suc, pred, _+_, _-_, _*_, _≤_, _<_, max}
+use Prim.Native.Nat.{ℕ, zero, suc, pred, _+_, _≤_, _<_, max}
 use mathlib.Core.Path.{_≡_, refl, sym, ap, _∙_}
 use mathlib.Core.List.{List, [], _∷_, _++_, map, append-assoc, append-nil}
 use mathlib.Core.Bool.{true, false, not, _&&_}
@@ -7,16 +7,14 @@ use mathlib.Core.Option.{none, some}
 use native.Mathlib.Omega.{arith}
 use borrow.Author.Tests.{lt-ltb, le-ltb}
 use lib.Dec.{leb, eqb}
-use lib.ListN.{take, drop, length, set, getD, length-append, length-drop, length-map, length-set}
-use lib.Seq.{drop-drop, getD-set-same, getD-set-other}
+use lib.ListN.{take, drop, length, length-append, length-drop}
 use Rattle.rules.specs.Utf8.{firstBad}
 use Rattle.rules.specs.Refusals.{NotUtf8, TooLong, StackFull, ListFull}
-use Rattle.rules.specs.Spans.{span, low, high, limit, spanOf}
+use Rattle.rules.specs.Spans.{span, limit}
 use Rattle.rules.specs.Kinds.{isSpace, isOpener, isCloser}
 use Rattle.rules.specs.Step.{found, stop, step}
-use Rattle.rules.specs.Lent.{Lexeme, lexeme, wordsOf, kindsWith, wordsWith}
+use Rattle.rules.specs.Lent.{Lexeme, lexeme}
 use Rattle.rules.specs.Lexing.{Taken, taken, End, stopped, Trace, ends, after, openAfter, codesAfter, innermost, atEnd, traceFrom, trace, depthAfter, roomAfter, limited, lexemesOf, joined, deepestFrom, placed, listedOf, openOf}
-use Rattle.rules.proofs.Arithmetic.{suc-double}
 use Rattle.rules.proofs.Text.{decide}
 
 pub joined-append : (ps qs : List Taken) → joined (ps ++ qs) ≡ joined ps ++ joined qs
@@ -144,83 +142,3 @@ behind-after ps p t = rw (append-assoc ps (p ∷ []) (t .taken))
 
 pub behind-ends : (ps : List Taken) (e : End) → behind ps (ends e) ≡ record { taken = ps; end = e }
 behind-ends ps e = rw (append-nil ps)
-
--- The lent arrays with one lexeme more
-pub kinds-snoc : (ls : List Lexeme) (l : Lexeme) (ks : List ℕ) → length ls < length ks → kindsWith (ls ++ (l ∷ [])) ks ≡ set (kindsWith ls ks) (length ls) (l .kind)
-kinds-snoc [] l [] room = absurd (omega arith)
-kinds-snoc [] l (k ∷ ks) room = refl
-kinds-snoc (m ∷ ls) l [] room = absurd (omega arith)
-kinds-snoc (m ∷ ls) l (k ∷ ks) room = ap (λ (r : List ℕ). m .kind ∷ r) (kinds-snoc ls l ks (omega arith))
-
-suc-double-one : (n : ℕ) → suc n * 2 + 1 ≡ suc (suc (n * 2 + 1))
-suc-double-one n = omega arith
-
-pub words-snoc : (ls : List Lexeme) (l : Lexeme) (ws : List ℕ) → length ls * 2 + 1 < length ws →
-    wordsWith (ls ++ (l ∷ [])) ws ≡ set (set (wordsWith ls ws) (length ls * 2) (low (l .at))) (length ls * 2 + 1) (high (l .at))
-words-snoc [] l [] room = absurd (omega arith)
-words-snoc [] l (a ∷ []) room = absurd (omega arith)
-words-snoc [] l (a ∷ (b ∷ ws)) room = refl
-words-snoc (m ∷ ls) l [] room = absurd (omega arith)
-words-snoc (m ∷ ls) l (a ∷ []) room = absurd (omega arith)
-words-snoc (m ∷ ls) l (a ∷ (b ∷ ws)) room =
-    rw (suc-double-one (length ls), suc-double (length ls), suc-double (length (ls ++ (l ∷ []))))
-    (ap (λ (r : List ℕ). low (m .at) ∷ high (m .at) ∷ r) (words-snoc ls l ws (omega arith)))
-
-pub kinds-length : (ls : List Lexeme) (ks : List ℕ) → length ls ≤ length ks → length (kindsWith ls ks) ≡ length ks
-kinds-length ls ks room = simp (length-append, length-map, length-drop) (omega arith)
-
-length-words : (ls : List Lexeme) → length (wordsOf ls) ≡ length ls * 2
-length-words [] = refl
-length-words (l ∷ ls) = omega (arith, length-words ls)
-
-pub words-length : (ls : List Lexeme) (ws : List ℕ) → length ls * 2 ≤ length ws → length (wordsWith ls ws) ≡ length ws
-words-length ls ws room = simp (length-append, length-words, length-drop) (omega arith)
-
--- The stack in lent arrays
--- the openers, innermost first, as the stack's arrays have them: the innermost stands at the place below the depth
-abbrev pub OnStack : List Lexeme → (kinds words : List ℕ) → Type 0
-OnStack [] ks ws = Unit {0}
-OnStack (o ∷ os) ks ws = (getD ks (length os) 0 ≡ o .kind) × (spanOf (getD ws (length os * 2) 0) (getD ws (length os * 2 + 1) 0) ≡ o .at) × OnStack os ks ws
-
--- the two words of a place, where another place's words are written
-other-words : (ws : List ℕ) (i n l h : ℕ) → i < n →
-    spanOf (getD (set (set ws (n * 2) l) (n * 2 + 1) h) (i * 2) 0) (getD (set (set ws (n * 2) l) (n * 2 + 1) h) (i * 2 + 1) 0) ≡ spanOf (getD ws (i * 2) 0) (getD ws (i * 2 + 1) 0)
-other-words ws i n l h lt =
-    let below : (j : ℕ) → j < n * 2 → getD (set (set ws (n * 2) l) (n * 2 + 1) h) j 0 ≡ getD ws j 0 =
-    λ j lt₂. getD-set-other (set ws (n * 2) l) (n * 2 + 1) j h 0 (omega arith) ∙ getD-set-other ws (n * 2) j l 0 (omega arith) in
-    rw (below (i * 2) (omega arith), below (i * 2 + 1) (omega arith))
-
--- writing at the depth or above keeps what is on the stack
-pub stack-keep : (os : List Lexeme) (ks ws : List ℕ) (n k l h : ℕ) → OnStack os ks ws → length os ≤ n → OnStack os (set ks n k) (set (set ws (n * 2) l) (n * 2 + 1) h)
-stack-keep [] ks ws n k l h on above = tt
-stack-keep (o ∷ os) ks ws n k l h on above =
-    (getD-set-other ks n (length os) k 0 (omega arith) ∙ on .0, other-words ws (length os) n l h (omega arith) ∙ on .1, stack-keep os ks ws n k l h (on .2) (omega arith))
-
--- an opener written at the depth is the innermost
-pub stack-push : (os : List Lexeme) (o : Lexeme) (ks ws : List ℕ) (l h : ℕ) → OnStack os ks ws → length os < length ks → length os * 2 + 1 < length ws → spanOf l h ≡ o .at →
-    OnStack (o ∷ os) (set ks (length os) (o .kind)) (set (set ws (length os * 2) l) (length os * 2 + 1) h)
-stack-push os o ks ws l h on kinds words e =
-    let n : ℕ = length os in
-    let ws₁ : List ℕ = set ws (n * 2) l in
-    let first : getD (set ws₁ (n * 2 + 1) h) (n * 2) 0 ≡ l = getD-set-other ws₁ (n * 2 + 1) (n * 2) h 0 (omega arith) ∙ getD-set-same ws (n * 2) l 0 (omega arith) in
-    let second : getD (set ws₁ (n * 2 + 1) h) (n * 2 + 1) 0 ≡ h = getD-set-same ws₁ (n * 2 + 1) h 0 (omega (arith, length-set ws (n * 2) l)) in
-    (getD-set-same ks n (o .kind) 0 (omega arith), rw (first, second) e, stack-keep os ks ws n (o .kind) l h on (omega arith))
-
--- a closer takes the innermost, and writes nothing
-pub stack-pop : (os : List Lexeme) (ks ws : List ℕ) → OnStack os ks ws → OnStack (drop 1 os) ks ws
-stack-pop [] ks ws on = tt
-stack-pop (o ∷ os) ks ws on = on .2
-
--- the innermost opener's code, read off the array
-pub stack-top-kind : (os : List Lexeme) (ks ws : List ℕ) → OnStack os ks ws → 0 < length os → innermost (map (λ x. x .kind) os) ≡ getD ks (length os - 1) 0
-stack-top-kind [] ks ws on some-open = absurd (omega arith)
-stack-top-kind (o ∷ os) ks ws on some-open =
-    let n : suc (length os) - 1 ≡ length os = omega arith in
-    rw n (sym (on .0))
-
--- Past the deepest nothing is written: a write below a place keeps what stands from there on (`drop-set-lt` of lib.Seq), and what is the same from a place on is so from any later one
-pub untouched-more : {A : Type 0} (d e : ℕ) (xs ys : List A) → d ≤ e → drop d xs ≡ drop d ys → drop e xs ≡ drop e ys
-untouched-more {A} d e xs ys le same =
-    let there : d + (e - d) ≡ e = omega arith in
-    let further : drop (d + (e - d)) xs ≡ drop (d + (e - d)) ys = sym (drop-drop (e - d) d xs) ∙ ap (λ (r : List A). drop (e - d) r) same ∙ drop-drop (e - d) d ys in
-    rw there at further

@@ -4,7 +4,7 @@ use Prim.Native.Char.{Char, code}
 use Prim.Native.String as S
 use native.Mathlib.Omega.{arith}
 use mathlib.Core.Path.{_≡_, refl, sym, ap, _∙_}
-use mathlib.Core.Bool.{Bool, true, false, _&&_, _||_, and-true, and-assoc, and-comm, true≢false, false≢true}
+use mathlib.Core.Bool.{Bool, true, false, _&&_, _||_, and-true, and-assoc, and-comm, false≢true}
 use mathlib.Core.List.{List, []}
 use borrow.Author.Tests.{ne-eqb, le-leb, lt-leb, eqb-true, leb-true, ltb-false}
 use lib.Dec.{ltb, leb, eqb}
@@ -19,7 +19,7 @@ use Rattle.rules.specs.Answers.{Answer, given, refused, Refusal, refuse}
 use Rattle.rules.specs.Kinds.{Single, Unicode4, UnicodeDelim}
 use Rattle.rules.specs.Output.{endOf, piece, overwritten}
 use Rattle.rules.specs.Escapes.{isSingle, isUnicode4, isUnicodeDelim, delimited, hexValue, singleScalar, unicodeScalar, scalarOf, escapeScalar, scalarPut, unescape, Unescapes}
-use Rattle.rules.proofs.Text.{branch, either, is-code, is-another}
+use Rattle.rules.proofs.Text.{branch, either, is-code, is-another, or-left}
 use Rattle.rules.proofs.Runs.{begins-more, begins-at}
 use Rattle.output.proofs.Overwritten.{overwritten-nothing, written-one-fits, written-one-not}
 use Rattle.rules.proofs.Text.{both}
@@ -157,11 +157,7 @@ scalar-given text s k u e =
 
 -- a span that is not bad starts up to its end
 pub not-bad : (s : Span) → isBad s ≡ false → s .start ≤ s .end
-not-bad s e = ltb-false (s .end) (s .start) (first (ltb (s .end) (s .start)) (ltb limit (s .end)) e)
-  where
-    first : (a b : Bool) → a || b ≡ false → a ≡ false
-    first true b e = absurd (true≢false e)
-    first false b e = refl
+not-bad s e = ltb-false (s .end) (s .start) (or-left (ltb (s .end) (s .start)) (ltb limit (s .end)) e)
 
 -- Writing
 

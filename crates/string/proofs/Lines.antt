@@ -16,7 +16,7 @@ use Rattle.rules.specs.Spans.{nowhere, isBad, bytesAt}
 use Rattle.rules.specs.Answers.{Refusal, Answer, given, refused, refuse, Verdict, accepted, andThen, firstRefusal}
 use Rattle.rules.specs.Source.{resolved}
 use Rattle.rules.specs.Kinds.{StringInner, HoleOpen, between}
-use Rattle.rules.specs.Lent.{Lexeme, lexemesIn, arrays}
+use Rattle.rules.specs.Lent.{Lexeme, Arrays, contents}
 use Rattle.rules.specs.Indent.{partVerdict, isStringPart, spacesAfter, isBlankLine, stringNext, indentsOf, fewest, indentOf, indentCall}
 use Rattle.list.specs.Entries.{firstOf}
 use Rattle.string.specs.Meaning.{partChecked}
@@ -125,10 +125,10 @@ abbrev pub indentFrom : List ℕ → (before : List ℕ) → List Lexeme → Ans
 indentFrom text ns ps = andThen (firstRefusal (partVerdict text) ps) (given (fewest (ns ++ indentsOf text ps)))
 
 -- the call starts with its first part and none before it
-pub indent-start : (text ks ws : List ℕ) (count : ℕ) → let ls = lexemesIn ks ws in indentCall text (arrays ks ws) count ≡ indentFrom text [] (take (length (take count ls)) ls)
+pub indent-start : (text : List ℕ) (parts : Arrays) (count : ℕ) → let ls = contents parts in indentCall text parts count ≡ indentFrom text [] (take (length (take count ls)) ls)
 unfolding indentCall indentOf
-indent-start text ks ws count =
-    let ls = lexemesIn ks ws in
+indent-start text parts count =
+    let ls = contents parts in
     ap (λ (ps : List Lexeme). indentFrom text [] ps) (sym (take-length (take count ls)) ∙ take-take (length (take count ls)) count ls (omega (arith, length-take count ls)))
 
 -- it goes on behind a part that nothing is said against

@@ -12,7 +12,7 @@ use Rattle.rules.specs.Text.{is, begins, run}
 use Rattle.rules.specs.Bytes.{isWhitespace, isControl, isDigit, isLetter, isPunctuation, isIdentifierByte, classOf, Digit, Letter}
 use Rattle.rules.specs.Kinds.{FormatDouble, FormatTriple}
 use Rattle.rules.specs.Step.{found}
-use Rattle.rules.proofs.Text.{decide}
+use Rattle.rules.proofs.Text.{decide, same-truth}
 use Rattle.rules.proofs.Every.{below}
 use Rattle.rules.proofs.Runs.{begins-at, begins-more, passes-inside}
 use Rattle.token.specs.Table.{IsTable}
@@ -49,15 +49,9 @@ module _ (t : List ℕ) (at first : ℕ) where
       (λ f. rw f)
 
 -- A byte, by its class: one computed test over all of them
-equal : (x y : Bool) → Bool·beq x y ≡ true → x ≡ y
-equal true true e = refl
-equal true false e = absurd (false≢true e)
-equal false true e = absurd (false≢true e)
-equal false false e = refl
-
 ident-byte : (b : ℕ) → b < 256 → eqb (classOf b) Letter || eqb (classOf b) Digit || is "-" b ≡ isIdentifierByte b
 unfolding classOf isWhitespace isControl isDigit isLetter isPunctuation isIdentifierByte
-ident-byte b h = equal _ _ (below 256 (λ b. Bool·beq (eqb (classOf b) Letter || eqb (classOf b) Digit || is "-" b) (isIdentifierByte b)) refl b h)
+ident-byte b h = same-truth _ _ (below 256 (λ b. Bool·beq (eqb (classOf b) Letter || eqb (classOf b) Digit || is "-" b) (isIdentifierByte b)) refl b h)
 
 -- A right table: what it holds decides as the rules do
 same-run : (p q : ℕ → Bool) (s : List ℕ) → ((i : ℕ) → getD s i 0 < 256) → ((b : ℕ) → b < 256 → p b ≡ q b) → run p s ≡ run q s

@@ -59,7 +59,7 @@ counted text doc places stack = sym (listed-kept doc 0 ((traceIn places stack te
 pub listing-back : (text : List ℕ) (doc stack : ℕ) (list : Lent) → let ls = listing doc (placesIn list) stack text in take (lexing doc (placesIn list) stack text .lexemes) (contents (filled ls list .arrays)) ≡ ls
 listing-back text doc stack list =
     let ls : List Lexeme = listing doc (placesIn list) stack text in
-    rw (counted text doc (placesIn list) stack) (contents-holding ls (list .arrays) (listing-room text doc (placesIn list) stack) (shown-words (listing-shows-all text doc (placesIn list) stack)))
+    rw (counted text doc (placesIn list) stack) (contents-holding ls (list .arrays) (listing-room text doc list stack) (shown-words (listing-shows-all text doc (placesIn list) stack)))
 
 -- the rule for a call whose lexing is refused
 tidying-refused : (doc places stack : ℕ) (text out : List ℕ) (f : Refusal) → lexing doc places stack text .verdict ≡ refused f

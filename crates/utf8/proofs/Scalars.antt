@@ -2,12 +2,12 @@
 use Prim.Native.Nat.{ℕ, _+_, _/_, _%_, _≤_, _<_}
 use native.Mathlib.Omega.{arith}
 use mathlib.Core.Path.{_≡_, refl}
-use mathlib.Core.Bool.{Bool, true, false, _&&_, false≢true}
+use mathlib.Core.Bool.{true, _&&_}
 use mathlib.Core.List.{[], _∷_}
 use borrow.Author.Tests.{lt-ltb, le-ltb, leb-true, ltb-true}
 use lib.Dec.{ltb, leb}
 use Rattle.rules.specs.Utf8.{encode, isScalar}
-use Rattle.rules.proofs.Text.{either}
+use Rattle.rules.proofs.Text.{either, and-right}
 
 -- the one byte of a scalar value under 0x80
 pub encode-one : (u : ℕ) → u < 0x80 → encode u ≡ u ∷ []
@@ -34,8 +34,4 @@ pub scalar-most : (u : ℕ) → isScalar u ≡ true → u ≤ 0x10FFFF
 unfolding isScalar
 scalar-most u e = either (ltb u 0xD800) (leb 0xE000 u && leb u 0x10FFFF) e
     (λ f. let h = ltb-true u 0xD800 f in omega arith)
-    (λ f. leb-true u 0x10FFFF (second (leb 0xE000 u) (leb u 0x10FFFF) f))
-  where
-    second : (a b : Bool) → a && b ≡ true → b ≡ true
-    second true b e = e
-    second false b e = absurd (false≢true e)
+    (λ f. leb-true u 0x10FFFF (and-right (leb 0xE000 u) (leb u 0x10FFFF) f))

@@ -10,7 +10,7 @@ use Rattle.rules.specs.Refusals.{NoString}
 use Rattle.rules.specs.Spans.{nowhere}
 use Rattle.rules.specs.Answers.{Answer, given, refused, Refusal, refuse, Verdict, accepted, andThen, firstRefusal}
 use Rattle.rules.specs.Kinds.{isTriple}
-use Rattle.rules.specs.Lent.{Lexeme, Arrays, arrays, placesOf, lexemesIn, lexemesFrom}
+use Rattle.rules.specs.Lent.{Lexeme, Arrays, arrayPlaces, contents, lexemesFrom}
 use Rattle.rules.specs.Parts.{Parts, partsOf, partsIn, partsCall, ListsParts}
 use Rattle.rules.specs.Indent.{partVerdict, indentOf, indentCall}
 use Rattle.rules.specs.Value.{Held, Valued, escapeVerdict, valueWritten, kindOfFirst, indentTaken, valueOf, valueCall, Values}
@@ -21,27 +21,27 @@ use Rattle.value.proofs.Refusing.{first-listed, accepted-refused}
 use Rattle.cst.proofs.Found.{found-read}
 
 -- an indent that is found: no part is refused, and it is theirs
-pub indent-found : (text ks ws : List ℕ) (count n : ℕ) → indentCall text (arrays ks ws) count ≡ given n
-    → (firstRefusal (partVerdict text) (take count (lexemesIn ks ws)) ≡ accepted) × (n ≡ indentOf text (take count (lexemesIn ks ws)))
+pub indent-found : (text : List ℕ) (list : Arrays) (count n : ℕ) → indentCall text list count ≡ given n
+    → (firstRefusal (partVerdict text) (take count (contents list)) ≡ accepted) × (n ≡ indentOf text (take count (contents list)))
 unfolding indentCall
-indent-found text ks ws count n e = from (firstRefusal (partVerdict text) (take count (lexemesIn ks ws))) (indentOf text (take count (lexemesIn ks ws))) e
+indent-found text list count n e = from (firstRefusal (partVerdict text) (take count (contents list))) (indentOf text (take count (contents list))) e
   where
     from : (v : Verdict) (m : ℕ) → andThen v (given m) ≡ given n → (v ≡ accepted) × (n ≡ m)
     from (given tt) m e = (refl, cc)
     from (refused r) m e = accepted-refused (sym e)
 
 -- an indent that is refused: a part is
-pub indent-refused : (text ks ws : List ℕ) (count : ℕ) (r : Refusal) → indentCall text (arrays ks ws) count ≡ refused r → firstRefusal (partVerdict text) (take count (lexemesIn ks ws)) ≡ refused r
+pub indent-refused : (text : List ℕ) (list : Arrays) (count : ℕ) (r : Refusal) → indentCall text list count ≡ refused r → firstRefusal (partVerdict text) (take count (contents list)) ≡ refused r
 unfolding indentCall
-indent-refused text ks ws count r e = from (firstRefusal (partVerdict text) (take count (lexemesIn ks ws))) (indentOf text (take count (lexemesIn ks ws))) e
+indent-refused text list count r e = from (firstRefusal (partVerdict text) (take count (contents list))) (indentOf text (take count (contents list))) e
   where
     from : (v : Verdict) (m : ℕ) → andThen v (given m) ≡ refused r → v ≡ refused r
     from (given tt) m e = accepted-refused e
     from (refused q) m e = cc
 
 -- nothing is said against parts whose indent is found and whose escapes are accepted
-pub good-parts : (text ks ws : List ℕ) (count n : ℕ) → indentCall text (arrays ks ws) count ≡ given n → firstRefusal (escapeVerdict text) (take count (lexemesIn ks ws)) ≡ accepted → PartsAccepted text (take count (lexemesIn ks ws))
-good-parts text ks ws count n e v = record { inside = indent-found text ks ws count n e .0; escapes = v }
+pub good-parts : (text : List ℕ) (list : Arrays) (count n : ℕ) → indentCall text list count ≡ given n → firstRefusal (escapeVerdict text) (take count (contents list)) ≡ accepted → PartsAccepted text (take count (contents list))
+good-parts text list count n e v = record { inside = indent-found text list count n e .0; escapes = v }
 
 module _ (text : List ℕ) (ls : List Lexeme) (p : Parts) (out : List ℕ) (at : ℕ) where
   -- the parts are refused
@@ -82,31 +82,31 @@ place-there room place ls closer e = decide (ltb place (length ls))
     accepted-refused (sym none-there))
 
 -- so the opener is the one that stands there
-pub opener-there : (room place count : ℕ) (ks ws : List ℕ) (closer : ℕ) → partsIn room place (lexemesFrom (arrays ks ws) count place) .answer ≡ given closer
-    → kindOfFirst (lexemesFrom (arrays ks ws) count place) ≡ firstOf (drop place (lexemesIn ks ws)) .kind
-opener-there room place count ks ws closer e =
-    let there : place < length (take count (lexemesIn ks ws)) = place-there room place (take count (lexemesIn ks ws)) closer e in
-    kind-first (lexemesFrom (arrays ks ws) count place) ∙ ap (λ l. l .kind) (first-listed count (lexemesIn ks ws) place there)
+pub opener-there : (room place count : ℕ) (list : Arrays) (closer : ℕ) → partsIn room place (lexemesFrom list count place) .answer ≡ given closer
+    → kindOfFirst (lexemesFrom list count place) ≡ firstOf (drop place (contents list)) .kind
+opener-there room place count list closer e =
+    let there : place < length (take count (contents list)) = place-there room place (take count (contents list)) closer e in
+    kind-first (lexemesFrom list count place) ∙ ap (λ l. l .kind) (first-listed count (contents list) place there)
 
 -- the parts of a call
-abbrev pub foundBy : (ks ws : List ℕ) (count place : ℕ) (pks pws : List ℕ) → Parts
-foundBy ks ws count place pks pws = partsIn (placesOf pks pws) place (lexemesFrom (arrays ks ws) count place)
+abbrev pub foundBy : (list : Arrays) (count place : ℕ) (parts : Arrays) → Parts
+foundBy list count place parts = partsIn (arrayPlaces parts) place (lexemesFrom list count place)
 
-module _ {ks ws : List ℕ} {count place : ℕ} {pks pws : List ℕ} {closer : Answer ℕ} {parts : ℕ} {pks′ pws′ : List ℕ} (p : ListsParts (arrays ks ws) count place (arrays pks pws) closer parts (arrays pks′ pws′)) where
+module _ {list : Arrays} {count place : ℕ} {parts : Arrays} {closer : Answer ℕ} {n : ℕ} {parts′ : Arrays} (p : ListsParts list count place parts closer n parts′) where
   -- the answer of the parts
-  parts-answer : closer ≡ foundBy ks ws count place pks pws .answer
+  parts-answer : closer ≡ foundBy list count place parts .answer
   unfolding partsCall
   parts-answer = p .answered
 
   -- what is read from the parts list are the parts
-  pub parts-read : take parts (lexemesIn pks′ pws′) ≡ foundBy ks ws count place pks pws .found
+  pub parts-read : take n (contents parts′) ≡ foundBy list count place parts .found
   unfolding partsCall
-  parts-read = rw (p .counted, ap (λ (x : Arrays). x .kinds) (p .listed), ap (λ (x : Arrays). x .words) (p .listed)) (found-read place (lexemesFrom (arrays ks ws) count place) pks pws)
+  parts-read = rw (p .counted, p .listed) (found-read place (lexemesFrom list count place) parts)
 
   module _ (text out : List ℕ) (at : ℕ) where
     -- what the call leaves, by what its value is
-    call-is : (v : Valued) → valueOf text (lexemesFrom (arrays ks ws) count place) (foundBy ks ws count place pks pws) out at ≡ v
-        → (answer : Answer Held) (out′ : List ℕ) → answer ≡ v .answer → out′ ≡ v .output → Values text (arrays ks ws) count place (arrays pks pws) out at answer parts (arrays pks′ pws′) out′
+    call-is : (v : Valued) → valueOf text (lexemesFrom list count place) (foundBy list count place parts) out at ≡ v
+        → (answer : Answer Held) (out′ : List ℕ) → answer ≡ v .answer → out′ ≡ v .output → Values text list count place parts out at answer n parts′ out′
     unfolding valueCall partsCall
     call-is v e answer out′ a o = record {
       answered = a ∙ sym (ap (λ z. z .answer) e);
@@ -116,34 +116,34 @@ module _ {ks ws : List ℕ} {count place : ℕ} {pks pws : List ℕ} {closer : A
     }
 
     -- the parts are refused
-    pub call-no-parts : (r : Refusal) → closer ≡ refused r → Values text (arrays ks ws) count place (arrays pks pws) out at (refused r) parts (arrays pks′ pws′) out
+    pub call-no-parts : (r : Refusal) → closer ≡ refused r → Values text list count place parts out at (refused r) n parts′ out
     call-no-parts r e =
-        call-is _ (value-no-parts text (lexemesFrom (arrays ks ws) count place) (foundBy ks ws count place pks pws) out at r (sym parts-answer ∙ e)) (refused r) out refl refl
+        call-is _ (value-no-parts text (lexemesFrom list count place) (foundBy list count place parts) out at r (sym parts-answer ∙ e)) (refused r) out refl refl
 
     module _ (last : ℕ) (e : closer ≡ given last) where
       -- a part is refused
-      pub call-no-indent : (r : Refusal) → indentCall text (arrays pks′ pws′) parts ≡ refused r → Values text (arrays ks ws) count place (arrays pks pws) out at (refused r) parts (arrays pks′ pws′) out
+      pub call-no-indent : (r : Refusal) → indentCall text parts′ n ≡ refused r → Values text list count place parts out at (refused r) n parts′ out
       call-no-indent r f =
-          let first : firstRefusal (partVerdict text) (foundBy ks ws count place pks pws .found) ≡ refused r = rw parts-read at (indent-refused text pks′ pws′ parts r f) in
-          call-is _ (value-no-indent text (lexemesFrom (arrays ks ws) count place) (foundBy ks ws count place pks pws) out at last (sym parts-answer ∙ e) r first) (refused r) out refl refl
+          let first : firstRefusal (partVerdict text) (foundBy list count place parts .found) ≡ refused r = rw parts-read at (indent-refused text parts′ n r f) in
+          call-is _ (value-no-indent text (lexemesFrom list count place) (foundBy list count place parts) out at last (sym parts-answer ∙ e) r first) (refused r) out refl refl
 
-      module _ (spaces : ℕ) (f : indentCall text (arrays pks′ pws′) parts ≡ given spaces) where
-        inside : firstRefusal (partVerdict text) (foundBy ks ws count place pks pws .found) ≡ accepted
-        inside = rw parts-read at (indent-found text pks′ pws′ parts spaces f .0)
+      module _ (spaces : ℕ) (f : indentCall text parts′ n ≡ given spaces) where
+        inside : firstRefusal (partVerdict text) (foundBy list count place parts .found) ≡ accepted
+        inside = rw parts-read at (indent-found text parts′ n spaces f .0)
 
         -- an escape is refused
-        pub call-no-escapes : (r : Refusal) → firstRefusal (escapeVerdict text) (take parts (lexemesIn pks′ pws′)) ≡ refused r → Values text (arrays ks ws) count place (arrays pks pws) out at (refused r) parts (arrays pks′ pws′) out
+        pub call-no-escapes : (r : Refusal) → firstRefusal (escapeVerdict text) (take n (contents parts′)) ≡ refused r → Values text list count place parts out at (refused r) n parts′ out
         call-no-escapes r g =
-            call-is _ (value-no-escapes text (lexemesFrom (arrays ks ws) count place) (foundBy ks ws count place pks pws) out at last (sym parts-answer ∙ e) inside r (rw parts-read at g)) (refused r) out refl refl
+            call-is _ (value-no-escapes text (lexemesFrom list count place) (foundBy list count place parts) out at last (sym parts-answer ∙ e) inside r (rw parts-read at g)) (refused r) out refl refl
 
         -- nothing is refused
-        pub call-found : firstRefusal (escapeVerdict text) (take parts (lexemesIn pks′ pws′)) ≡ accepted → {answer : Answer Held} {out′ : List ℕ}
-            → WrittenValue text (cond (isTriple (firstOf (drop place (lexemesIn ks ws)) .kind)) spaces 0) (take parts (lexemesIn pks′ pws′)) at out answer out′
-            → Values text (arrays ks ws) count place (arrays pks pws) out at answer parts (arrays pks′ pws′) out′
+        pub call-found : firstRefusal (escapeVerdict text) (take n (contents parts′)) ≡ accepted → {answer : Answer Held} {out′ : List ℕ}
+            → WrittenValue text (cond (isTriple (firstOf (drop place (contents list)) .kind)) spaces 0) (take n (contents parts′)) at out answer out′
+            → Values text list count place parts out at answer n parts′ out′
         call-found g {answer} {out′} w =
-            let ps = foundBy ks ws count place pks pws .found in
-            let quote : kindOfFirst (lexemesFrom (arrays ks ws) count place) ≡ firstOf (drop place (lexemesIn ks ws)) .kind = opener-there (placesOf pks pws) place count ks ws last (sym parts-answer ∙ e) in
-            let indent : spaces ≡ indentOf text ps = indent-found text pks′ pws′ parts spaces f .1 ∙ ap (indentOf text) parts-read in
-            let taken : cond (isTriple (firstOf (drop place (lexemesIn ks ws)) .kind)) spaces 0 ≡ indentTaken text (kindOfFirst (lexemesFrom (arrays ks ws) count place)) ps = rw (quote, indent) refl in
-            let v : WrittenValue text (indentTaken text (kindOfFirst (lexemesFrom (arrays ks ws) count place)) ps) ps at out answer out′ = rw (taken, parts-read) at w in
-            call-is _ (value-found text (lexemesFrom (arrays ks ws) count place) (foundBy ks ws count place pks pws) out at last (sym parts-answer ∙ e) inside (rw parts-read at g)) answer out′ (v .answered) (v .output)
+            let ps = foundBy list count place parts .found in
+            let quote : kindOfFirst (lexemesFrom list count place) ≡ firstOf (drop place (contents list)) .kind = opener-there (arrayPlaces parts) place count list last (sym parts-answer ∙ e) in
+            let indent : spaces ≡ indentOf text ps = indent-found text parts′ n spaces f .1 ∙ ap (indentOf text) parts-read in
+            let taken : cond (isTriple (firstOf (drop place (contents list)) .kind)) spaces 0 ≡ indentTaken text (kindOfFirst (lexemesFrom list count place)) ps = rw (quote, indent) refl in
+            let v : WrittenValue text (indentTaken text (kindOfFirst (lexemesFrom list count place)) ps) ps at out answer out′ = rw (taken, parts-read) at w in
+            call-is _ (value-found text (lexemesFrom list count place) (foundBy list count place parts) out at last (sym parts-answer ∙ e) inside (rw parts-read at g)) answer out′ (v .answered) (v .output)

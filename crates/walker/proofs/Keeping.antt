@@ -6,7 +6,7 @@ use mathlib.Core.Option.{some}
 use native.Mathlib.Omega.{arith}
 use lib.Dec.{leb}
 use borrow.Author.Tests.{leb-true, leb-false, lt-ltb, le-ltb}
-use Rattle.rules.specs.Lent.{arrays}
+use Rattle.rules.specs.Lent.{Arrays}
 use Rattle.rules.specs.Refusals.{BadSpan, NotUtf8, WrongForm}
 use Rattle.rules.specs.Spans.{Span, span, nowhere, limit}
 use Rattle.rules.specs.Answers.{Refusal as RefusalRule, refusal, given, refuse}
@@ -46,6 +46,6 @@ bad-refused doc at r q e = decide (leb at limit)
     (λ h. rw (h, e))
 
 -- what is kept is given, and nothing changes
-pub gives-walks : (text ks ws : List ℕ) (doc at depth : ℕ) (k : Kept) (r : Refusal) → keptRefusal doc k ≡ some (refusalMeant r) → Walks text (walkerAt doc at depth k) (arrays ks ws) (steppedBy (Refused r) at depth) (arrays ks ws)
+pub gives-walks : (text : List ℕ) (stack : Arrays) (doc at depth : ℕ) (k : Kept) (r : Refusal) → keptRefusal doc k ≡ some (refusalMeant r) → Walks text (walkerAt doc at depth k) stack (steppedBy (Refused r) at depth) stack
 unfolding walking
-gives-walks text ks ws doc at depth k r e = record { answer = rw e; coded = tt; position = rw e; depth = rw e; stacked = rw e }
+gives-walks text stack doc at depth k r e = record { answer = rw e; coded = tt; position = rw e; depth = rw e; stacked = rw e }

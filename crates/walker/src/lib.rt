@@ -9,6 +9,7 @@ ghost use Rattle.walker.specs.Meaning.{keptMeant};
 ghost use Rattle.walker.specs.Walkers.{Opens, Steps};
 use lexer::StepAnswer;
 use lexer::Stepped;
+use rules::refusal;
 use source::Refusal;
 use source::Span;
 use source::Spanned;
@@ -25,7 +26,7 @@ pub enum Kept {
 fn kept_of(text: &[u8]) -> Kept
     ensures { λ r. ⌜ keptMeant r ≡ keptOf (now (text .entry)) ⌝ }
 {
-    if 0xffff_ffff_ffff < text.len() {
+    if rules::LIMIT < text.len() {
         return Kept::TooLong;
     }
     let checked = utf8::check(text);
@@ -41,17 +42,17 @@ pub fn bad_at(doc: u32, bad: usize) -> Refusal
 {
     let made = Span::new(doc, bad, bad);
     let Spanned::Made(at) = made else {
-        return source::refuse(40, source::start_of(doc));
+        return source::refuse(refusal::WRONG_FORM, source::start_of(doc));
     };
-    source::refuse(1, at)
+    source::refuse(refusal::NOT_UTF8, at)
 }
 
 // A walker that keeps a refusal gives it, and stays.
-fn gives(refusal: Refusal, position: usize, depth: usize) -> Stepped
-    ensures { λ r. ⌜ r ≡ steppedBy (Refused refusal) position depth ⌝ }
+fn gives(kept: Refusal, position: usize, depth: usize) -> Stepped
+    ensures { λ r. ⌜ r ≡ steppedBy (Refused kept) position depth ⌝ }
 {
     Stepped {
-        answer: StepAnswer::Refused(refusal),
+        answer: StepAnswer::Refused(kept),
         position: position,
         depth: depth,
     }
@@ -71,7 +72,7 @@ fn step_at(
 {
     match kept {
         Kept::TooLong => {
-            let long = source::refuse(2, source::start_of(doc));
+            let long = source::refuse(refusal::TOO_LONG, source::start_of(doc));
             gives(long, position, depth)
         }
         Kept::NotUtf8(bad) => gives(bad_at(doc, bad), position, depth),

@@ -5,7 +5,7 @@ use mathlib.Core.Path.{_≡_, _∙_, ap}
 use lib.ListN.{length, take, length-take}
 use borrow.Author.Needs.{needs}
 use Rattle.rules.specs.Lent.{placesOf, lexemesIn}
-use Rattle.list.proofs.Entries.{places-length}
+use Rattle.rules.proofs.Listed.{places-length}
 use Rattle.list.proofs.end.Statement.{statement}
 use Rattle.list.proofs.end.Tie as tie
 

@@ -6,7 +6,8 @@ use lib.ListN.{length}
 use borrow.Author.Needs.{needs}
 use Rattle.rules.specs.Spans.{spanOf}
 use Rattle.rules.specs.Lent.{placesOf, lexemesIn}
-use Rattle.list.proofs.Entries.{places-length, first-past, lexeme-at}
+use Rattle.rules.proofs.Listed.{places-length}
+use Rattle.list.proofs.Entries.{first-past, lexeme-at}
 use Rattle.list.proofs.get.Statement.{statement}
 use Rattle.list.proofs.get.Tie as tie
 

@@ -1,4 +1,4 @@
--- The test is that of `PutAt`; the two words that are written are those of the span that they name (`low-of-span`, `high-of-span`).
+-- The test is that of `putIn`; the two words that are written are those of the span that they name (`low-of-span`, `high-of-span`).
 use native.Mathlib.Omega.{arith}
 use Prim.Native.Nat.{_^_, _<_}
 use mathlib.Core.Path.{_≡_}
@@ -17,7 +17,7 @@ returns c =
     let a = c .before .before .before .before .before .before .args in
     let n = placesOf (a .kinds .now) (a .words .now) in
     let past : ltb (a .place) n ≡ false = le-ltb (a .place) n (omega (arith, c .if1 .taken, c .before .places .ensures)) in
-    record { kinds = rw past; words = rw past }
+    rw past
 
 slice-write-words-2 : tie.Need-slice-write-words-2
 slice-write-words-2 c = simp length-set (omega (arith, c .before .if1 .left, c .before .before .places .ensures))
@@ -30,7 +30,7 @@ returns-2 c =
     let l = a .entry .at .low in
     let h = a .entry .at .high in
     let word : l < 2 ^ 64 = omega arith in
-    record { kinds = rw there; words = rw (there, low-of-span l h word, high-of-span l h word) }
+    rw (there, low-of-span l h word, high-of-span l h word)
 
 pub put-spec : {M : Type 1} → statement M
 put-spec =

@@ -2,6 +2,7 @@
 use mathlib.Core.Path.{sym, ap}
 use mathlib.Core.Option.{some}
 use Rattle.rules.specs.Walker.{tooLong, notUtf8}
+use Rattle.rules.specs.Lent.{arrays}
 use Rattle.walker.proofs.Keeping.{gives-walks}
 use borrow.Author.Needs.{needs}
 use Rattle.walker.proofs.step_at.Statement.{statement}
@@ -35,10 +36,10 @@ step-at-requires : tie.Need-step-at-requires
 step-at-requires c κs = search needs
 
 returns : tie.Need-returns
-returns c = rw (c .before .before .before .enum-told .given .1, c .gives .ensures) (gives-walks (c .before .before .before .before .before .before .before .before .args .text .now) (c .before .before .before .before .before .before .before .before .args .skinds .now) (c .before .before .before .before .before .before .before .before .args .swords .now) (c .before .before .before .before .before .before .before .before .args .doc) (c .before .before .before .before .before .before .before .before .args .position) (c .before .before .before .before .before .before .before .before .args .depth) tooLong _ (rw (c .before .refuse .ensures, c .before .before .start-of .ensures)))
+returns c = rw (c .before .before .before .enum-told .given .1, c .gives .ensures) (gives-walks (c .before .before .before .before .before .before .before .before .args .text .now) (arrays (c .before .before .before .before .before .before .before .before .args .skinds .now) (c .before .before .before .before .before .before .before .before .args .swords .now)) (c .before .before .before .before .before .before .before .before .args .doc) (c .before .before .before .before .before .before .before .before .args .position) (c .before .before .before .before .before .before .before .before .args .depth) tooLong _ (rw (c .before .refuse .ensures, c .before .before .start-of .ensures)))
 
 returns-2 : tie.Need-returns-2
-returns-2 c = rw (c .before .before .before .kept .given .1, c .gives2 .ensures) (gives-walks (c .before .before .before .before .before .before .before .before .args .text .now) (c .before .before .before .before .before .before .before .before .args .skinds .now) (c .before .before .before .before .before .before .before .before .args .swords .now) (c .before .before .before .before .before .before .before .before .args .doc) (c .before .before .before .before .before .before .before .before .args .position) (c .before .before .before .before .before .before .before .before .args .depth) (notUtf8 _) _ (ap some (sym (c .before .bad-at .ensures))))
+returns-2 c = rw (c .before .before .before .kept .given .1, c .gives2 .ensures) (gives-walks (c .before .before .before .before .before .before .before .before .args .text .now) (arrays (c .before .before .before .before .before .before .before .before .args .skinds .now) (c .before .before .before .before .before .before .before .before .args .swords .now)) (c .before .before .before .before .before .before .before .before .args .doc) (c .before .before .before .before .before .before .before .before .args .position) (c .before .before .before .before .before .before .before .before .args .depth) (notUtf8 _) _ (ap some (sym (c .before .bad-at .ensures))))
 
 same-length : tie.Need-same-length
 same-length c = search needs

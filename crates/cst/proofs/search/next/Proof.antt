@@ -1,4 +1,4 @@
--- What a full list makes of a turn: a part for which there is no place is refused, everything else stays.
+-- What a full list makes of an effect: a part for which there is no place is refused, everything else stays.
 use mathlib.Core.Path.{ap, _∙_}
 use borrow.Author.Tests.{le-leb, lt-leb}
 use borrow.Author.Needs.{needs}

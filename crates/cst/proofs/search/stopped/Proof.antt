@@ -1,4 +1,4 @@
--- Each arm knows what the turn is; a turn that goes on is by its move the one or the other, and both answer the place.
+-- Each arm knows what the effect is; one that goes on passes over the lexeme or completes a part, and both answer the place.
 use mathlib.Core.Path.{_≡_, refl, ap}
 use Prim.Native.Nat.{ℕ}
 use borrow.Author.Needs.{needs}
@@ -17,10 +17,10 @@ returns : tie.Need-returns
 returns c = rw (c .enum-told .given .1) (goes _ (c .enum-told .given .0 .0))
 
 returns-2 : tie.Need-returns-2
-returns-2 c = rw (c .before .before .before .turn .given .1, c .enum-told2 .given .1)
+returns-2 c = rw (c .before .before .before .effect .given .1, c .enum-told2 .given .1)
 
 returns-3 : tie.Need-returns-3
-returns-3 c = rw (c .before .before .before .before .before .turn .given .1, c .before .before .stop .given .1) (ap refused (c .refuse .ensures))
+returns-3 c = rw (c .before .before .before .before .before .effect .given .1, c .before .before .stop .given .1) (ap refused (c .refuse .ensures))
 
 pub stopped-spec : {M : Type 1} → statement M
 stopped-spec =

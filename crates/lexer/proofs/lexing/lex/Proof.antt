@@ -17,7 +17,7 @@ same-length : tie.Need-same-length
 same-length c = search needs
 
 returns : tie.Need-returns
-returns c = long-out _ _ _ _ _ _ (c .stopped .result) (omega (arith, c .before .before .if1 .taken)) (c .stopped .ensures)
+returns c = long-out _ _ _ _ (c .stopped .result) (omega (arith, c .before .before .if1 .taken)) (c .stopped .ensures)
 
 check-requires : tie.Need-check-requires
 check-requires c κs = search needs
@@ -32,7 +32,7 @@ same-length-2 : tie.Need-same-length-2
 same-length-2 c = search needs
 
 returns-2 : tie.Need-returns-2
-returns-2 c = bad-out _ _ _ _ _ _ _ (c .stopped2 .result) (omega (arith, c .before .before .before .before .before .before .if1 .left)) (sym (c .before .before .before .before .before .check .ensures .0) ∙ ap checkedMeant (c .before .before .before .checked .given .1)) (c .stopped2 .ensures)
+returns-2 c = bad-out _ _ _ _ _ (c .stopped2 .result) (omega (arith, c .before .before .before .before .before .before .if1 .left)) (sym (c .before .before .before .before .before .check .ensures .0) ∙ ap checkedMeant (c .before .before .before .checked .given .1)) (c .stopped2 .ensures)
 
 enum-told : tie.Need-enum-told
 enum-told c = search needs
@@ -49,7 +49,7 @@ enum-told-2 c = search needs
 halted-requires : tie.Need-halted-requires
 halted-requires c κs =
     let good = sym (c .before .before .before .before .before .before .before .before .before .before .before .before .before .before .before .before .before .before .check .ensures .0) ∙ ap checkedMeant (c .before .before .before .before .before .before .before .before .before .before .before .before .before .before .before .before .enum-told .given .1) in
-    let whole = rw (c .before .enum-told2 .given .1) at (whole-of _ _ _ _ _ _ _ _ _ _ (omega (arith, c .before .before .before .before .before .before .before .before .before .before .before .before .before .before .before .before .before .before .before .before .before .before .before .before .before .good .0)) (omega (arith, c .before .before .before .before .before .before .before .before .before .before .before .before .before .before .before .before .before .before .before .if1 .left)) good (c .before .before .before .before .before .before .before .before .before .before .before .run .ensures)) in
+    let whole = rw (c .before .enum-told2 .given .1) at (whole-of _ _ _ _ _ _ (omega (arith, c .before .before .before .before .before .before .before .before .before .before .before .before .before .before .before .before .before .before .before .before .before .before .before .before .before .good .0)) (omega (arith, c .before .before .before .before .before .before .before .before .before .before .before .before .before .before .before .before .before .before .before .if1 .left)) good (c .before .before .before .before .before .before .before .before .before .before .before .run .ensures)) in
     rw (c .before .enum-told2 .given .1) (whole .stops)
 
 same-length-3 : tie.Need-same-length-3
@@ -68,13 +68,13 @@ returns-3 : tie.Need-returns-3
 unfolding haltedWith
 returns-3 c =
     let good = sym (c .before .before .before .before .before .before .before .before .before .before .before .before .before .before .before .before .before .before .before .check .ensures .0) ∙ ap checkedMeant (c .before .before .before .before .before .before .before .before .before .before .before .before .before .before .before .before .before .enum-told .given .1) in
-    let whole = rw (c .before .before .enum-told2 .given .1) at (whole-of _ _ _ _ _ _ _ _ _ _ (omega (arith, c .before .before .before .before .before .before .before .before .before .before .before .before .before .before .before .before .before .before .before .before .before .before .before .before .before .before .good .0)) (omega (arith, c .before .before .before .before .before .before .before .before .before .before .before .before .before .before .before .before .before .before .before .before .if1 .left)) good (c .before .before .before .before .before .before .before .before .before .before .before .before .run .ensures)) in
+    let whole = rw (c .before .before .enum-told2 .given .1) at (whole-of _ _ _ _ _ _ (omega (arith, c .before .before .before .before .before .before .before .before .before .before .before .before .before .before .before .before .before .before .before .before .before .before .before .before .before .before .good .0)) (omega (arith, c .before .before .before .before .before .before .before .before .before .before .before .before .before .before .before .before .before .before .before .before .if1 .left)) good (c .before .before .before .before .before .before .before .before .before .before .before .before .run .ensures)) in
     whole .refused (c .halted .result) (rw (c .before .before .enum-told2 .given .1) at (c .halted .ensures))
 
 report-unclosed-delimiters-requires : tie.Need-report-unclosed-delimiters-requires
 report-unclosed-delimiters-requires c κs =
     let good = sym (c .before .before .before .before .before .before .before .before .before .before .before .before .before .before .before .before .before .before .before .before .check .ensures .0) ∙ ap checkedMeant (c .before .before .before .before .before .before .before .before .before .before .before .before .before .before .before .before .before .before .enum-told .given .1) in
-    let whole = rw (c .before .before .before .ran .given .1) at (whole-of _ _ _ _ _ _ _ _ _ _ (omega (arith, c .before .before .before .before .before .before .before .before .before .before .before .before .before .before .before .before .before .before .before .before .before .before .before .before .before .before .before .good .0)) (omega (arith, c .before .before .before .before .before .before .before .before .before .before .before .before .before .before .before .before .before .before .before .before .before .if1 .left)) good (c .before .before .before .before .before .before .before .before .before .before .before .before .before .run .ensures)) in
+    let whole = rw (c .before .before .before .ran .given .1) at (whole-of _ _ _ _ _ _ (omega (arith, c .before .before .before .before .before .before .before .before .before .before .before .before .before .before .before .before .before .before .before .before .before .before .before .before .before .before .before .good .0)) (omega (arith, c .before .before .before .before .before .before .before .before .before .before .before .before .before .before .before .before .before .before .before .before .before .if1 .left)) good (c .before .before .before .before .before .before .before .before .before .before .before .before .before .run .ensures)) in
     whole .finishes
 
 same-length-7 : tie.Need-same-length-7
@@ -92,7 +92,7 @@ same-length-10 c = search needs
 returns-4 : tie.Need-returns-4
 returns-4 c =
     let good = sym (c .before .before .before .before .before .before .before .before .before .before .before .before .before .before .before .before .before .before .before .before .before .check .ensures .0) ∙ ap checkedMeant (c .before .before .before .before .before .before .before .before .before .before .before .before .before .before .before .before .before .before .before .enum-told .given .1) in
-    let whole = rw (c .before .before .before .before .ran .given .1) at (whole-of _ _ _ _ _ _ _ _ _ _ (omega (arith, c .before .before .before .before .before .before .before .before .before .before .before .before .before .before .before .before .before .before .before .before .before .before .before .before .before .before .before .before .good .0)) (omega (arith, c .before .before .before .before .before .before .before .before .before .before .before .before .before .before .before .before .before .before .before .before .before .before .if1 .left)) good (c .before .before .before .before .before .before .before .before .before .before .before .before .before .before .run .ensures)) in
+    let whole = rw (c .before .before .before .before .ran .given .1) at (whole-of _ _ _ _ _ _ (omega (arith, c .before .before .before .before .before .before .before .before .before .before .before .before .before .before .before .before .before .before .before .before .before .before .before .before .before .before .before .before .good .0)) (omega (arith, c .before .before .before .before .before .before .before .before .before .before .before .before .before .before .before .before .before .before .before .before .before .before .if1 .left)) good (c .before .before .before .before .before .before .before .before .before .before .before .before .before .before .run .ensures)) in
     whole .ended (c .report-unclosed-delimiters .result) (c .report-unclosed-delimiters .ensures)
 
 pub lex-spec : {M : Type 1} → statement M

@@ -6,7 +6,7 @@ use borrow.Author.Needs.{needs}
 use borrow.Author.Tests.{ne-eqb}
 use lib.ListN.{length}
 use Rattle.rules.specs.Kinds.{Space}
-use Rattle.rules.specs.Lent.{placesOf}
+use Rattle.rules.specs.Lent.{placesOf, lent}
 use Rattle.token.specs.Codes.{codeOf, ifOpener}
 use Rattle.token.specs.Table.{IsTable}
 use Rattle.token.specs.declared.Opened.{Opened}
@@ -23,7 +23,7 @@ kept e = rw e refl
 
 abbrev Inv-loop : tie.InvT-loop
 Inv-loop doc shift text stop listed to-format kinds₀ words₀ skinds₀ swords₀ places stack table mode₀ cur₀ token₀ kinds words skinds swords mode cur token =
-    Running (courseOf doc shift text stop listed to-format kinds₀ words₀ skinds₀ swords₀) (stateAt cur₀ Space kinds₀ words₀ skinds₀ swords₀) kinds words skinds swords cur (mode .top) (codeOf token) × (places ≡ roomOf listed kinds₀ words₀) × (stack ≡ placesOf skinds₀ swords₀) × IsTable table × (placesOf skinds₀ swords₀ < 2 ^ 63) × (mode ≡ modeOf (mode .top))
+    Running (courseOf doc shift text stop listed to-format (lent kinds₀ words₀) (lent skinds₀ swords₀)) (stateAt cur₀ Space (lent kinds₀ words₀) (lent skinds₀ swords₀)) (stateAt cur (codeOf token) (lent kinds words) (lent skinds swords)) (mode .top) × (places ≡ roomOf listed (lent kinds₀ words₀)) × (stack ≡ placesOf skinds₀ swords₀) × IsTable table × (placesOf skinds₀ swords₀ < 2 ^ 63) × (mode ≡ modeOf (mode .top))
 
 abbrev μ-loop : tie.MeasureT-loop
 μ-loop doc shift text stop listed to-format kinds₀ words₀ skinds₀ swords₀ places stack table mode₀ cur₀ token₀ kinds words skinds swords mode cur token =
@@ -60,16 +60,16 @@ refused-step-requires : tie.Need-refused-step-requires Inv-loop μ-loop
 refused-step-requires c κs = search needs
 
 same-length : tie.Need-same-length Inv-loop μ-loop
-same-length c = as-long (c .before .before .before .before .before .before .before .loop .inv .0) .kinds
+same-length c = as-long (c .before .before .before .before .before .before .before .loop .inv .0) .list .kinds
 
 same-length-2 : tie.Need-same-length-2 Inv-loop μ-loop
-same-length-2 c = as-long (c .before .before .before .before .before .before .before .loop .inv .0) .words
+same-length-2 c = as-long (c .before .before .before .before .before .before .before .loop .inv .0) .list .words
 
 same-length-3 : tie.Need-same-length-3 Inv-loop μ-loop
-same-length-3 c = as-long (c .before .before .before .before .before .before .before .loop .inv .0) .stackKinds
+same-length-3 c = as-long (c .before .before .before .before .before .before .before .loop .inv .0) .stack .kinds
 
 same-length-4 : tie.Need-same-length-4 Inv-loop μ-loop
-same-length-4 c = as-long (c .before .before .before .before .before .before .before .loop .inv .0) .stackWords
+same-length-4 c = as-long (c .before .before .before .before .before .before .before .loop .inv .0) .stack .words
 
 returns : tie.Need-returns Inv-loop μ-loop
 returns c =
@@ -127,16 +127,16 @@ no-room-requires : tie.Need-no-room-requires Inv-loop μ-loop
 no-room-requires c κs = search needs
 
 same-length-5 : tie.Need-same-length-5 Inv-loop μ-loop
-same-length-5 c = as-long (c .before .before .before .before .before .before .before .before .before .before .before .before .before .loop .inv .0) .kinds
+same-length-5 c = as-long (c .before .before .before .before .before .before .before .before .before .before .before .before .before .loop .inv .0) .list .kinds
 
 same-length-6 : tie.Need-same-length-6 Inv-loop μ-loop
-same-length-6 c = as-long (c .before .before .before .before .before .before .before .before .before .before .before .before .before .loop .inv .0) .words
+same-length-6 c = as-long (c .before .before .before .before .before .before .before .before .before .before .before .before .before .loop .inv .0) .list .words
 
 same-length-7 : tie.Need-same-length-7 Inv-loop μ-loop
-same-length-7 c = as-long (c .before .before .before .before .before .before .before .before .before .before .before .before .before .loop .inv .0) .stackKinds
+same-length-7 c = as-long (c .before .before .before .before .before .before .before .before .before .before .before .before .before .loop .inv .0) .stack .kinds
 
 same-length-8 : tie.Need-same-length-8 Inv-loop μ-loop
-same-length-8 c = as-long (c .before .before .before .before .before .before .before .before .before .before .before .before .before .loop .inv .0) .stackWords
+same-length-8 c = as-long (c .before .before .before .before .before .before .before .before .before .before .before .before .before .loop .inv .0) .stack .words
 
 returns-2 : tie.Need-returns-2 Inv-loop μ-loop
 returns-2 c =
@@ -150,16 +150,16 @@ no-room-requires-2 : tie.Need-no-room-requires-2 Inv-loop μ-loop
 no-room-requires-2 c κs = search needs
 
 same-length-9 : tie.Need-same-length-9 Inv-loop μ-loop
-same-length-9 c = as-long (c .before .before .before .before .before .before .before .before .before .before .before .before .before .before .loop .inv .0) .kinds
+same-length-9 c = as-long (c .before .before .before .before .before .before .before .before .before .before .before .before .before .before .loop .inv .0) .list .kinds
 
 same-length-10 : tie.Need-same-length-10 Inv-loop μ-loop
-same-length-10 c = as-long (c .before .before .before .before .before .before .before .before .before .before .before .before .before .before .loop .inv .0) .words
+same-length-10 c = as-long (c .before .before .before .before .before .before .before .before .before .before .before .before .before .before .loop .inv .0) .list .words
 
 same-length-11 : tie.Need-same-length-11 Inv-loop μ-loop
-same-length-11 c = as-long (c .before .before .before .before .before .before .before .before .before .before .before .before .before .before .loop .inv .0) .stackKinds
+same-length-11 c = as-long (c .before .before .before .before .before .before .before .before .before .before .before .before .before .before .loop .inv .0) .stack .kinds
 
 same-length-12 : tie.Need-same-length-12 Inv-loop μ-loop
-same-length-12 c = as-long (c .before .before .before .before .before .before .before .before .before .before .before .before .before .before .loop .inv .0) .stackWords
+same-length-12 c = as-long (c .before .before .before .before .before .before .before .before .before .before .before .before .before .before .loop .inv .0) .stack .words
 
 returns-3 : tie.Need-returns-3 Inv-loop μ-loop
 returns-3 c =
@@ -199,7 +199,7 @@ same-length-13 c =
     let z = ne-eqb _ 0 (c .before .before .before .before .before .before .before .before .before .before .before .before .before .before .before .before .before .before .before .before .before .before .before .before .if2 .left) in
     let o = sym (c .before .before .before .before .before .before .before .before .before .before .before .before .before .before .before .before .before .before .before .before .before .before .opens .ensures) ∙ c .before .before .before .before .before .before .before .before .before .before .before .before .before .before .before .before .before .before .before .before .before .if3 .taken in
     let n = opener-fits (i .0) h t o (omega (arith, i .2, c .before .before .before .before .before .before .before .before .before .before .before .before .before .before .before .before .before .before .before .before .if4 .left)) (omega (arith, i .1, c .before .before .before .before .before .before .before .before .before .before .before .before .before .before .before .before .before .before .before .if5 .left)) in
-    opener-long (i .0) h t z n (c .before .before .before .before .before .before .before .before .before .before .before .before .before .before .before .before .before .before .before .before .before .before .before .pack .result) (c .before .before .before .before .before .before .before .before .before .before .before .before .before .before .before .before .before .before .before .before .before .before .before .pack .ensures) (c .before .before .before .before .before .before .before .before .before .before .before .before .before .before .before .before .put .ensures) o (c .before .before .before .before .before .before .before .before .before .put2 .ensures) .kinds
+    opener-long (i .0) h t z n (c .before .before .before .before .before .before .before .before .before .before .before .before .before .before .before .before .before .before .before .before .before .before .before .pack .result) (c .before .before .before .before .before .before .before .before .before .before .before .before .before .before .before .before .before .before .before .before .before .before .before .pack .ensures) (c .before .before .before .before .before .before .before .before .before .before .before .before .before .before .before .before .put .ensures) o (c .before .before .before .before .before .before .before .before .before .put2 .ensures) .list .kinds
 
 same-length-14 : tie.Need-same-length-14 Inv-loop μ-loop
 same-length-14 c =
@@ -209,7 +209,7 @@ same-length-14 c =
     let z = ne-eqb _ 0 (c .before .before .before .before .before .before .before .before .before .before .before .before .before .before .before .before .before .before .before .before .before .before .before .before .if2 .left) in
     let o = sym (c .before .before .before .before .before .before .before .before .before .before .before .before .before .before .before .before .before .before .before .before .before .before .opens .ensures) ∙ c .before .before .before .before .before .before .before .before .before .before .before .before .before .before .before .before .before .before .before .before .before .if3 .taken in
     let n = opener-fits (i .0) h t o (omega (arith, i .2, c .before .before .before .before .before .before .before .before .before .before .before .before .before .before .before .before .before .before .before .before .if4 .left)) (omega (arith, i .1, c .before .before .before .before .before .before .before .before .before .before .before .before .before .before .before .before .before .before .before .if5 .left)) in
-    opener-long (i .0) h t z n (c .before .before .before .before .before .before .before .before .before .before .before .before .before .before .before .before .before .before .before .before .before .before .before .pack .result) (c .before .before .before .before .before .before .before .before .before .before .before .before .before .before .before .before .before .before .before .before .before .before .before .pack .ensures) (c .before .before .before .before .before .before .before .before .before .before .before .before .before .before .before .before .put .ensures) o (c .before .before .before .before .before .before .before .before .before .put2 .ensures) .words
+    opener-long (i .0) h t z n (c .before .before .before .before .before .before .before .before .before .before .before .before .before .before .before .before .before .before .before .before .before .before .before .pack .result) (c .before .before .before .before .before .before .before .before .before .before .before .before .before .before .before .before .before .before .before .before .before .before .before .pack .ensures) (c .before .before .before .before .before .before .before .before .before .before .before .before .before .before .before .before .put .ensures) o (c .before .before .before .before .before .before .before .before .before .put2 .ensures) .list .words
 
 same-length-15 : tie.Need-same-length-15 Inv-loop μ-loop
 same-length-15 c =
@@ -219,7 +219,7 @@ same-length-15 c =
     let z = ne-eqb _ 0 (c .before .before .before .before .before .before .before .before .before .before .before .before .before .before .before .before .before .before .before .before .before .before .before .before .if2 .left) in
     let o = sym (c .before .before .before .before .before .before .before .before .before .before .before .before .before .before .before .before .before .before .before .before .before .before .opens .ensures) ∙ c .before .before .before .before .before .before .before .before .before .before .before .before .before .before .before .before .before .before .before .before .before .if3 .taken in
     let n = opener-fits (i .0) h t o (omega (arith, i .2, c .before .before .before .before .before .before .before .before .before .before .before .before .before .before .before .before .before .before .before .before .if4 .left)) (omega (arith, i .1, c .before .before .before .before .before .before .before .before .before .before .before .before .before .before .before .before .before .before .before .if5 .left)) in
-    opener-long (i .0) h t z n (c .before .before .before .before .before .before .before .before .before .before .before .before .before .before .before .before .before .before .before .before .before .before .before .pack .result) (c .before .before .before .before .before .before .before .before .before .before .before .before .before .before .before .before .before .before .before .before .before .before .before .pack .ensures) (c .before .before .before .before .before .before .before .before .before .before .before .before .before .before .before .before .put .ensures) o (c .before .before .before .before .before .before .before .before .before .put2 .ensures) .stackKinds
+    opener-long (i .0) h t z n (c .before .before .before .before .before .before .before .before .before .before .before .before .before .before .before .before .before .before .before .before .before .before .before .pack .result) (c .before .before .before .before .before .before .before .before .before .before .before .before .before .before .before .before .before .before .before .before .before .before .before .pack .ensures) (c .before .before .before .before .before .before .before .before .before .before .before .before .before .before .before .before .put .ensures) o (c .before .before .before .before .before .before .before .before .before .put2 .ensures) .stack .kinds
 
 same-length-16 : tie.Need-same-length-16 Inv-loop μ-loop
 same-length-16 c =
@@ -229,7 +229,7 @@ same-length-16 c =
     let z = ne-eqb _ 0 (c .before .before .before .before .before .before .before .before .before .before .before .before .before .before .before .before .before .before .before .before .before .before .before .before .if2 .left) in
     let o = sym (c .before .before .before .before .before .before .before .before .before .before .before .before .before .before .before .before .before .before .before .before .before .before .opens .ensures) ∙ c .before .before .before .before .before .before .before .before .before .before .before .before .before .before .before .before .before .before .before .before .before .if3 .taken in
     let n = opener-fits (i .0) h t o (omega (arith, i .2, c .before .before .before .before .before .before .before .before .before .before .before .before .before .before .before .before .before .before .before .before .if4 .left)) (omega (arith, i .1, c .before .before .before .before .before .before .before .before .before .before .before .before .before .before .before .before .before .before .before .if5 .left)) in
-    opener-long (i .0) h t z n (c .before .before .before .before .before .before .before .before .before .before .before .before .before .before .before .before .before .before .before .before .before .before .before .pack .result) (c .before .before .before .before .before .before .before .before .before .before .before .before .before .before .before .before .before .before .before .before .before .before .before .pack .ensures) (c .before .before .before .before .before .before .before .before .before .before .before .before .before .before .before .before .put .ensures) o (c .before .before .before .before .before .before .before .before .before .put2 .ensures) .stackWords
+    opener-long (i .0) h t z n (c .before .before .before .before .before .before .before .before .before .before .before .before .before .before .before .before .before .before .before .before .before .before .before .pack .result) (c .before .before .before .before .before .before .before .before .before .before .before .before .before .before .before .before .before .before .before .before .before .before .before .pack .ensures) (c .before .before .before .before .before .before .before .before .before .before .before .before .before .before .before .before .put .ensures) o (c .before .before .before .before .before .before .before .before .before .put2 .ensures) .stack .words
 
 returns-4 : tie.Need-returns-4 Inv-loop μ-loop
 returns-4 c =
@@ -264,16 +264,16 @@ no-room-requires-3 : tie.Need-no-room-requires-3 Inv-loop μ-loop
 no-room-requires-3 c κs = search needs
 
 same-length-17 : tie.Need-same-length-17 Inv-loop μ-loop
-same-length-17 c = as-long (c .before .before .before .before .before .before .before .before .before .before .before .before .before .loop .inv .0) .kinds
+same-length-17 c = as-long (c .before .before .before .before .before .before .before .before .before .before .before .before .before .loop .inv .0) .list .kinds
 
 same-length-18 : tie.Need-same-length-18 Inv-loop μ-loop
-same-length-18 c = as-long (c .before .before .before .before .before .before .before .before .before .before .before .before .before .loop .inv .0) .words
+same-length-18 c = as-long (c .before .before .before .before .before .before .before .before .before .before .before .before .before .loop .inv .0) .list .words
 
 same-length-19 : tie.Need-same-length-19 Inv-loop μ-loop
-same-length-19 c = as-long (c .before .before .before .before .before .before .before .before .before .before .before .before .before .loop .inv .0) .stackKinds
+same-length-19 c = as-long (c .before .before .before .before .before .before .before .before .before .before .before .before .before .loop .inv .0) .stack .kinds
 
 same-length-20 : tie.Need-same-length-20 Inv-loop μ-loop
-same-length-20 c = as-long (c .before .before .before .before .before .before .before .before .before .before .before .before .before .loop .inv .0) .stackWords
+same-length-20 c = as-long (c .before .before .before .before .before .before .before .before .before .before .before .before .before .loop .inv .0) .stack .words
 
 returns-5 : tie.Need-returns-5 Inv-loop μ-loop
 returns-5 c =
@@ -407,16 +407,16 @@ loop-again-5 c =
     (rw (← tc) r, i .1, i .2, i .3, i .4, i .5)
 
 same-length-21 : tie.Need-same-length-21 Inv-loop μ-loop
-same-length-21 c = as-long (c .before .before .loop .inv .0) .kinds
+same-length-21 c = as-long (c .before .before .loop .inv .0) .list .kinds
 
 same-length-22 : tie.Need-same-length-22 Inv-loop μ-loop
-same-length-22 c = as-long (c .before .before .loop .inv .0) .words
+same-length-22 c = as-long (c .before .before .loop .inv .0) .list .words
 
 same-length-23 : tie.Need-same-length-23 Inv-loop μ-loop
-same-length-23 c = as-long (c .before .before .loop .inv .0) .stackKinds
+same-length-23 c = as-long (c .before .before .loop .inv .0) .stack .kinds
 
 same-length-24 : tie.Need-same-length-24 Inv-loop μ-loop
-same-length-24 c = as-long (c .before .before .loop .inv .0) .stackWords
+same-length-24 c = as-long (c .before .before .loop .inv .0) .stack .words
 
 returns-6 : tie.Need-returns-6 Inv-loop μ-loop
 returns-6 c = end-stop (c .before .before .loop .inv .0) _ refl (c .if1 .left)

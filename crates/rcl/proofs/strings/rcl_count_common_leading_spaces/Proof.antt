@@ -1,5 +1,6 @@
 -- What `count_common_leading_spaces` ensures, in words: no refusal of an indent has a note (`note-indent`).
 use denote.Ref.{now}
+use Rattle.rules.specs.Lent.{arrays}
 use Rattle.rcl.proofs.Noteless.{note-indent}
 use borrow.Author.Needs.{needs}
 use Rattle.rcl.proofs.strings.rcl_count_common_leading_spaces.Statement.{statement}
@@ -8,7 +9,7 @@ use Rattle.rcl.proofs.strings.rcl_count_common_leading_spaces.Tie as ti
 returns : tie.Need-returns
 returns c =
     let a = c .before .before .before .before .before .args in
-    let none = note-indent (now (a .text)) (now (a .kinds)) (now (a .words)) (a .count) in
+    let none = note-indent (now (a .text)) (arrays (now (a .kinds)) (now (a .words))) (a .count) in
     let words = c .indented .ensures in
     (rw (words .0, c .before .count-common-leading-spaces .ensures) (none .same), words .1)
 

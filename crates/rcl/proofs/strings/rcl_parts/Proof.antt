@@ -1,5 +1,6 @@
 -- What `parts` ensures, in words: no refusal of a string has a note (`note-parts`).
 use denote.Ref.{now}
+use Rattle.rules.specs.Lent.{arrays}
 use Rattle.rcl.proofs.Noteless.{note-parts}
 use borrow.Author.Needs.{needs}
 use Rattle.rcl.proofs.strings.rcl_parts.Statement.{statement}
@@ -9,7 +10,7 @@ returns : tie.Need-returns
 returns c =
     let a = c .before .before .before .before .before .before .before .before .before .before .before .before .args in
     let listed = c .before .before .before .before .before .parts .ensures in
-    let none = note-parts (now (a .kinds)) (now (a .words)) (a .count) (a .place) (now (a .pkinds)) (now (a .pwords)) in
+    let none = note-parts (arrays (now (a .kinds)) (now (a .words))) (a .count) (a .place) (arrays (now (a .pkinds)) (now (a .pwords))) in
     let words = c .parted .ensures in (
       record {
         answered = rw (words .answered, listed .answered) (none .same);

@@ -1,5 +1,6 @@
 -- What `value` ensures, in words: no refusal of a value has a note (`note-value`).
 use denote.Ref.{now}
+use Rattle.rules.specs.Lent.{arrays}
 use Rattle.rcl.proofs.Noteless.{note-value}
 use borrow.Author.Needs.{needs}
 use Rattle.rcl.proofs.strings.rcl_value.Statement.{statement}
@@ -9,7 +10,7 @@ returns : tie.Need-returns
 returns c =
     let a = c .before .before .before .before .before .before .before .before .before .before .before .before .before .before .before .before .before .args in
     let found = c .before .before .before .before .before .before .before .value .ensures in
-    let none = note-value (now (a .text)) (now (a .kinds)) (now (a .words)) (a .count) (a .place) (now (a .pkinds)) (now (a .pwords)) (now (a .output)) (a .position) in
+    let none = note-value (now (a .text)) (arrays (now (a .kinds)) (now (a .words))) (a .count) (a .place) (arrays (now (a .pkinds)) (now (a .pwords))) (now (a .output)) (a .position) in
     let words = c .valued .ensures in (
       record {
         answered = rw (words .answered, found .answered) (none .same);

@@ -30,7 +30,7 @@ loop-holds c =
     let ls = lexemesIn (a .kinds .now) (a .words .now) in
     let e = c .end .ensures in
     let whole : length (take (c .end .result) ls) ≡ c .end .result = omega (arith, e, length-take (a .count) ls, length-take (c .end .result) ls) in
-    (omega arith, whole, rw e (indent-start (a .text .now) (a .kinds .now) (a .words .now) (a .count)))
+    (omega arith, whole, rw e (indent-start (a .text .now) (arrays (a .kinds .now) (a .words .now)) (a .count)))
 
 returns : tie.Need-returns Inv-loop μ-loop
 returns c =

@@ -62,7 +62,7 @@ write-value-requires c κs =
     let text = now (u .args .text) in
     let found = sym (t .before .before .count-common-leading-spaces .ensures) ∙ ap indentedMeant (t .indented .given .1) in
     let fine = sym (s .before .before .check-escapes .ensures) ∙ ap verdictMeant (s .enum-told4 .given .1) in
-    good-parts text _ _ _ _ found fine
+    good-parts text _ _ _ found fine
 
 same-length-7 : tie.Need-same-length-7
 same-length-7 c =
