@@ -145,7 +145,8 @@ pub fn parts(list: Entries<'_>, place: usize, parts: &mut List<'_>) -> Result<us
 }
 
 /// The indent of a list of parts: over String parts that begin with a line feed, the fewest
-/// spaces after it; 0 where there is no such part.
+/// spaces after it; a part of a line feed and spaces alone is passed over if the next part is a
+/// String; 0 where there is no such part.
 ///
 /// Refusals, part by part: 3, then 40 for a kind outside 10 to 14 or a span outside the text.
 ///

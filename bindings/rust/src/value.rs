@@ -85,11 +85,13 @@ pub fn value<'t, 'o>(
 ///
 /// The parts are listed as by [`parts`](crate::parts); then String and Escape parts are
 /// written, each whole or not at all; in triple quotes the indent is taken off; holes give no
-/// byte. A string that is one unbroken String part is answered as that part of the text, and
-/// the output is neither read nor written.
+/// byte. A string that is one unbroken String part (no second part, a hole included, and no
+/// indent taken off) is answered as that part of the text, and the output is neither read nor
+/// written; any other, `""` too, as a part of the output.
 ///
 /// Refusals: those of the parts, of the indent, of the escapes, each over the whole string
-/// before a byte is written, then 46. After a refusal the output holds the pieces before it.
+/// before a byte is written, then 46 where a piece does not fit, or `position` is past the
+/// output's end. After a refusal the output holds the pieces before it.
 ///
 /// ```
 /// use rcl::{hand, lex, write_value, Held, List, Stack};

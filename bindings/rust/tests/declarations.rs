@@ -1,6 +1,6 @@
 //! include/rcl.h, src/raw.rs, the exports of crates/rcl and the structs of crates/words say the
 //! same: every call with its arguments in order, and every struct with its fields. The header's kind codes and its
-//! macros for spans are those of this crate.
+//! macros for spans are those of this crate. Every call has an example in bindings/c/calls.c.
 
 use std::collections::BTreeMap;
 use std::fs;
@@ -237,6 +237,18 @@ fn exports() -> Declared {
     declared_in_rust(&sources.collect::<Vec<_>>().join("\n"))
 }
 
+/// The body of each example in bindings/c/calls.c, by the call that it is named after.
+fn examples() -> BTreeMap<String, String> {
+    let source = read(&top().join("bindings/c/calls.c"));
+    let found = source.split("\nstatic void example_").skip(1);
+    let examples = found.map(|rest| {
+        let (example, _) = rest.split_once("\n}\n").expect("It is closed.");
+        let (name, body) = example.split_once("(void) {\n").expect("It has a body.");
+        (name.to_string(), body.to_string())
+    });
+    examples.collect()
+}
+
 #[test]
 fn the_header_and_rust() {
     let (header, raw) = (header(), declared_in_rust(include_str!("../src/raw.rs")));
@@ -268,6 +280,16 @@ fn compare_fields(call: &str, header: &[Named], exports: &[Named]) {
             "{call}: {name}"
         );
         assert_eq!(kind, exported_kind, "{call}: {name}");
+    }
+}
+
+#[test]
+fn the_header_and_the_examples() {
+    let (header, examples) = (header(), examples());
+    let calls: Vec<_> = header.calls.keys().collect();
+    assert_eq!(calls, examples.keys().collect::<Vec<_>>());
+    for (call, body) in &examples {
+        assert!(body.contains(&format!("{call}(")), "{call}");
     }
 }
 
