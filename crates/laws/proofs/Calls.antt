@@ -120,6 +120,7 @@ same-calls text text₂ a a₂ e = record {
       };
 }
 
+-- demand 3 holds of the calls on every text that the rules accept
 pub demand-3-calls : (text : List ℕ) → accepts text ≡ true → Demand3Calls text
 demand-3-calls text a = record {
   one = one-call text a;

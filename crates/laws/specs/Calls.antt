@@ -61,7 +61,7 @@ pub record Accounted (text : List ℕ) (list stack : Lent) (r : Lexed) : Type 0 
   pub stepsLexemes : r .steps ≤ 2 * r .lexemes + 1
   pub deepest : 2 * r .deepest ≤ r .lexemes
 
--- any lexing call on it
+-- any lexing call on a text that the rules accept
 pub record OneCall {text : List ℕ} {list stack : Lent} (c : LexingCall text list stack) : Type 0 where
   pub exactly : isMemoryRefusal (c .result .verdict) ≡ isShort text (placesIn list) (placesIn stack)
   pub ample : isShort text (placesIn list) (placesIn stack) ≡ false → Accounted text list stack (c .result)
@@ -109,7 +109,7 @@ pub record SameCalls (text text₂ : List ℕ) : Type 0 where
       (v : ValueAfter c place parts out at) (v₂ : ValueAfter c₂ place parts out at) {part part₂ : Held} → v .answer ≡ given part → v₂ .answer ≡ given part₂ →
       (h : HandingCall text (v .out′) part) (h₂ : HandingCall text₂ (v₂ .out′) part₂) → SameHanded h h₂
 
--- every text that the rules accept
+-- demand 3 at the calls, of a text that the rules accept: of one lexing call on it, and of calls on it and on its re-spaced text, if that is within the limit
 pub record Demand3Calls (text : List ℕ) : Type 0 where
   pub one : {list stack : Lent} (c : LexingCall text list stack) → OneCall c
   pub both : length (respaced text) ≤ limit → SameCalls text (respaced text)

@@ -128,7 +128,7 @@ abbrev pub Consecutive : (doc at : ℕ) → List Lexeme → Type 0
 Consecutive doc at [] = Unit {0}
 Consecutive doc at (l ∷ ls) = (l .at .doc ≡ doc) × (l .at .start ≡ at) × (at ≤ l .at .end) × Consecutive doc (l .at .end) ls
 
--- the steps' spans are consecutive, each has the bytes that the text has there, and together they are the text up to the end or the refusal; what is listed are those steps that are no Space, each once and in their order (by the definition of `listing`)
+-- the steps' spans are consecutive, each has the bytes that the text has there, and together they are a front of the text: all of it where it is accepted, else up to where the refused step begins, nothing where 2 or 1 comes before the first step; what is listed are those steps that are no Space, each once and in their order (by the definition of `listing`)
 pub record InOrder (text : List ℕ) (doc places stack : ℕ) : Type 0 where
   pub consecutive : Consecutive doc 0 (placed doc 0 ((traceIn places stack text) .taken))
   pub bytes : map (λ l. bytesAt text (l .at)) (placed doc 0 ((traceIn places stack text) .taken)) ≡ map (λ p. p .bytes) ((traceIn places stack text) .taken)

@@ -277,6 +277,7 @@ stops-of s i x =
     ap (firstBadFrom 0 0) (sym (take-append-drop i s)) ∙ over-octets (x .before) 0 (drop i s) ∙ ap (λ (k : ℕ). firstBadFrom 0 k (drop i s)) (omega (arith, length-take-le i s (omega arith)))
     ∙ stops i (drop i s) (rw length-drop (omega arith)) (length-zero (drop i s) (x .none-begins))
 
+-- the function answers the place up to which the text is UTF-8 by the grammar and at which no character of the grammar begins
 pub first-bad : (s : List ℕ) (i : ℕ) → (firstBad s ≡ some i) ↔ StopsAt s i
 unfolding firstBad
 first-bad s i = (bad-of (outcome (suc (length s)) 0 s (omega arith)) i, stops-of s i)

@@ -92,10 +92,11 @@ scalarPut s out at (given u) =
     let w = written (endOf out) at (piece (encode u) s ∷ []) in
     record { answer = wroteAll (length (w .bytes)) (w .verdict); output = overwritten out at (w .bytes) }
 
+-- the character of the escape sequence at a span, written to an output at a position, or the refusal
 unfoldable pub unescape : List ℕ → Span → (kind : ℕ) (out : List ℕ) (at : ℕ) → Unescaped
 unescape text s k out at = scalarPut s out at (escapeScalar text s k)
 
--- what a call leaves, where its answer and the output after it are these
+-- what a call that writes an escape sequence's character leaves, where its answer and the output after it are these
 pub record Unescapes (text : List ℕ) (s : Span) (kind : ℕ) (out : List ℕ) (at : ℕ) (answer : Answer ℕ) (out′ : List ℕ) : Type 0 where
   pub answered : answer ≡ unescape text s kind out at .answer
   pub output : out′ ≡ unescape text s kind out at .output

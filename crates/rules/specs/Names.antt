@@ -9,6 +9,7 @@ use Rattle.rules.specs.Bytes.{isLetter, isIdentifierByte}
 use Rattle.rules.specs.Kinds.{Ident}
 use Rattle.rules.specs.Step.{keywordOrIdent}
 
+-- a word that the lexer gives another kind than Ident
 unfoldable pub isKeyword : List ℕ → Bool
 isKeyword w = not (eqb (keywordOrIdent w) Ident)
 

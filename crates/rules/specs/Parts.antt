@@ -92,7 +92,7 @@ partsCall list count place parts =
     let p = partsIn (arrayPlaces parts) place (lexemesFrom list count place) in
     record { answer = p .answer; parts = length (p .found); arrays = holding (p .found) parts }
 
--- what a call leaves, where its answer, its count and the parts list after it are these
+-- what a call that lists a string's parts leaves, where its answer, its count and the parts list after it are these
 pub record ListsParts (list : Arrays) (count place : ℕ) (parts : Arrays) (answer : Answer ℕ) (n : ℕ) (parts′ : Arrays) : Type 0 where
   pub answered : answer ≡ partsCall list count place parts .answer
   pub counted : n ≡ partsCall list count place parts .parts

@@ -10,6 +10,7 @@ pub record Span : Type 0 where
   pub start : ℕ
   pub end : ℕ
 
+-- a span of a document, from its start to before its end
 abbrev pub span : (doc start end : ℕ) → Span
 span d a e = record { doc = d; start = a; end = e }
 

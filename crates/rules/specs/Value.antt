@@ -97,7 +97,7 @@ valueCall text list count place parts out at =
     let v = valueOf text ls p out at in
     record { answer = v .answer; parts = length (p .found); arrays = holding (p .found) parts; output = v .output }
 
--- what a call leaves, where its answer, its count, the parts list and the output after it are these
+-- what the value call leaves, where its answer, its count, the parts list and the output after it are these
 pub record Values (text : List ℕ) (list : Arrays) (count place : ℕ) (parts : Arrays) (out : List ℕ) (at : ℕ) (answer : Answer Held) (n : ℕ) (parts′ : Arrays) (out′ : List ℕ) : Type 0 where
   pub answered : answer ≡ valueCall text list count place parts out at .answer
   pub counted : n ≡ valueCall text list count place parts out at .parts

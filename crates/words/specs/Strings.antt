@@ -45,7 +45,7 @@ canonicalAnswer w = record {
   count = ifClear (w .refusal .refused) (w .count);
 }
 
--- "how many parts were put, also where refused"
+-- how many parts were put is told where it is refused too
 abbrev pub canonicalParted : PartedWords → PartedWords
 canonicalParted w = record {
   refusal = canonicalRefusal (w .refusal);
