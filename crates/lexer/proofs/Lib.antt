@@ -7,8 +7,8 @@ pub mod Parts
 pub mod Standing
 pub mod Loop
 pub mod Going
+pub mod Ahead
 pub mod Running
-pub mod Lone
 pub mod Whole
 -- a single step
 pub mod Openers

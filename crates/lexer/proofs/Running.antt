@@ -11,7 +11,7 @@ use lib.Seq.{getD-set-same}
 use borrow.Author.Tests.{le-leb, lt-leb, ne-eqb, eqb-true}
 use Rattle.rules.specs.Refusals.{StackFull, ListFull}
 use Rattle.rules.specs.Spans.{span, spanOf, low, high}
-use Rattle.rules.specs.Kinds.{FormatDouble, FormatTriple, Space, isSpace, isOpener, isCloser}
+use Rattle.rules.specs.Kinds.{FormatDouble, FormatTriple, Space, isSpace, isOpener, isCloser, Blank}
 use Rattle.rules.specs.Step.{step, found}
 use Rattle.rules.specs.Lent.{lexeme, Arrays, Lent, placesIn}
 use Rattle.rules.specs.Lexing.{depthAfter}
@@ -37,10 +37,15 @@ use Rattle.lexer.specs.Going.{State, stateAt, stackCodes, Course, endsAf
 use Rattle.lexer.specs.Memory.{TopState}
 use Rattle.sublexers.specs.Outcome.{lexemeTo, refusedAt, outcome, stepMeant, innermostOf}
 use Rattle.lexer.specs.Results.{refusedBy, CanAdvance}
-use Rattle.lexer.specs.Running.{CanRun, ranFull, LoneIf, byText, byRoom, Runs, reached, halted}
+use Rattle.lexer.specs.Mode.{modeOf}
+use Rattle.lexer.specs.declared.Mode.{Mode}
+use Rattle.lexer.specs.declared.Behind.{Behind}
+use Rattle.lexer.specs.declared.Behind.the-variants.{Space as SpaceBehind, Blank as BlankBehind}
+use Rattle.lexer.specs.Running.{CanRun, ranFull, behindOf, byText, byRoom, Runs, reached, halted}
 use Rattle.lexer.proofs.Opening.{opened-code}
 use Rattle.lexer.proofs.Parts.{packed, full-opener, full-other, opener-listed}
 use Rattle.lexer.proofs.Standing.{Advanced, advanced, room-stack, depth-opens, depth-rest, depth-stays}
+use Rattle.lexer.proofs.Ahead.{Ahead, space-ahead, blank-ahead}
 use Rattle.lexer.proofs.Loop.{no-state, outcome-found, fault-means}
 use Rattle.lexer.proofs.Going.{put-yes, put-no, Long, goes-long}
 use Rattle.rules.proofs.SpacesAside.{space-opens, space-depth}
@@ -278,13 +283,37 @@ module _ {w : Course} {from now : State} {top : Opened} (s : Running w from now 
           pub opener-out : {c′ : Cursor} (token : Token) → k ≡ codeOf token → w .ends k ≡ true → c′ ≡ advanceOf (now .cur) k e → Runs w from list′ stack′ (Reached c′ token)
           opener-out token code n q = rw q (reached (advanceOf (now .cur) k e) token (rw (← code) opener-goes) (inr (rw (← code) n)))
 
--- a Space of one byte behind a lexeme, in the same turn
-module _ {w : Course} {from now : State} {top : Opened} (s : Running w from now top) {end : ℕ} {b : Bool} (at : now .cur .at ≡ end) (says : b ≡ true) (lone : LoneIf b (w .text) end (w .stop) top) where
-  pub lone-before : now .cur .at < w .stop
-  lone-before = omega (arith, lone .before says)
+-- whitespace behind a lexeme, in the same turn
+module _ {w : Course} {from now : State} {top : Opened} (s : Running w from now top) {at : ℕ} (here : now .cur .at ≡ at) where
+  pub space-behind : {b : Behind} {e : ℕ} (m : Mode) → m ≡ modeOf top → b ≡ SpaceBehind e → b ≡ behindOf (w .text) at (w .stop) (m .stop) → Ahead (w .text) at (w .stop) top Space e
+  space-behind m kept p q = space-ahead (w .text) at (w .stop) top (s .before) p (rw kept at q)
 
-  pub lone-taken : Taken s lone-before Space (end + 1)
-  lone-taken = record { is = rw at (lone .space says); moves = omega arith; fits = omega (arith, lone .before says, s .before) }
+  pub blank-behind : {b : Behind} {e : ℕ} (m : Mode) → m ≡ modeOf top → b ≡ BlankBehind e → b ≡ behindOf (w .text) at (w .stop) (m .stop) → Ahead (w .text) at (w .stop) top Blank e
+  blank-behind m kept p q = blank-ahead (w .text) at (w .stop) top (s .before) p (rw kept at q)
+
+  module _ {k e : ℕ} (a : Ahead (w .text) at (w .stop) top k e) where
+    pub ahead-before : now .cur .at < w .stop
+    ahead-before = omega (arith, a .before)
+
+    pub ahead-taken : Taken s ahead-before k e
+    ahead-taken = record { is = rw here (a .is); moves = omega (arith, a .moves); fits = a .fits }
+
+    -- the words of its span
+    pub ahead-words : (sp : Span) → (sp .low ≡ low (span (w .doc) (w .shift + at) (w .shift + e))) × (sp .high ≡ high (span (w .doc) (w .shift + at) (w .shift + e))) →
+        (sp .low ≡ low (span (w .doc) (w .shift + now .cur .at) (w .shift + e))) × (sp .high ≡ high (span (w .doc) (w .shift + now .cur .at) (w .shift + e)))
+    ahead-words sp x = rw here x
+
+    pub ahead-unlisted : isSpace k ≡ false → isOpener k ≡ false → w .places ≤ now .cur .lexemes → Runs w from (now .list) (now .stack) (ranFull (now .cur) at e ListFull)
+    ahead-unlisted b o le = rw (← here) (other-unlisted s ahead-before ahead-taken b o le)
+
+-- a Blank is listed, opens nothing and closes nothing
+pub blank-opens : isOpener Blank ≡ false
+unfolding isOpener
+blank-opens = refl
+
+pub blank-closes : isCloser Blank ≡ false
+unfolding isCloser
+blank-closes = refl
 
 -- the last position is reached
 module _ {w : Course} {from now : State} {top : Opened} (s : Running w from now top) where

@@ -1,11 +1,12 @@
 -- Steps from a cursor on, up to a position or a kind: what the loop needs, and what it says of its end.
 use Prim.Native.Nat.{ℕ, _+_, _≤_, _<_, _^_}
 use mathlib.Core.Path.{_≡_}
-use mathlib.Core.Bool.{Bool, true, false}
+use mathlib.Core.Bool.{true, false, cond, not, _||_}
 use mathlib.Core.List.{List}
 use mathlib.Core.Logic.{_⊎_}
+use lib.Dec.{eqb, leb}
 use lib.ListN.{length, drop}
-use Rattle.rules.specs.Kinds.{Space}
+use Rattle.rules.specs.Measuring.{measured}
 use Rattle.rules.specs.Step.{step}
 use Rattle.token.specs.Codes.{codeOf}
 use Rattle.token.specs.declared.Opened.{Opened}
@@ -14,7 +15,9 @@ use Rattle.lexer.specs.Cursor.{noRoomOf}
 use Rattle.rules.specs.Lent.{Lent}
 use Rattle.lexer.specs.Going.{State, stateAt, stackCodes, Course, innermostIn, Goes}
 use Rattle.lexer.specs.Memory.{TopState}
-use Rattle.sublexers.specs.Outcome.{Outcome, lexemeTo, refusedAt, outcome, innermostOf}
+use Rattle.sublexers.specs.Outcome.{Outcome, lexemeTo, refusedAt, outcome}
+use Rattle.lexer.specs.declared.Behind.{Behind}
+use Rattle.lexer.specs.declared.Behind.the-variants.{Nothing as NoneBehind, Space as SpaceBehind, Blank as BlankBehind}
 use Rattle.lexer.specs.declared.Cursor.{Cursor}
 use Rattle.sublexers.specs.declared.Fault.{Fault}
 use Rattle.lexer.specs.declared.RunEnd.{RunEnd}
@@ -36,10 +39,13 @@ pub record CanRun (w : Course) (s : State) (top : Opened) : Type 0 where
 abbrev pub ranFull : Cursor → (at end number : ℕ) → RunEnd
 ranFull c at end number = Halted c (record { end = end; number = number; start = at })
 
--- the step at a position before `stop` is a Space of one byte, where a test says so
-pub record LoneIf (b : Bool) (text : List ℕ) (at stop : ℕ) (top : Opened) : Type 0 where
-  pub before : b ≡ true → at < stop
-  pub space : b ≡ true → lexemeTo Space (at + 1) ≡ outcome at (step (innermostOf top) (drop at text))
+-- the whitespace at a position behind a lexeme, outside strings and before `stop`: a Space or a Blank, and where it ends. The byte is that which ends an inner part, 0 outside strings.
+abbrev pub behindOf : List ℕ → (at stop byte : ℕ) → Behind
+behindOf text at stop byte =
+    let run = measured (drop at text) in
+    cond (not (eqb byte 0) || leb stop at) NoneBehind (
+    cond (eqb (run .length) 0) NoneBehind (
+    cond (leb 2 (run .lines)) (BlankBehind (at + run .length)) (SpaceBehind (at + run .length))))
 
 -- the rules' step where a run stands
 abbrev pub dueAt : Course → State → Outcome

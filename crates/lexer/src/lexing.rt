@@ -7,16 +7,15 @@
 // step into the loop.
 ghost use mathlib.Core.Path.{_≡_};
 ghost use mathlib.Core.Bool.{true, false};
-ghost use Prim.Native.Nat.{_≤_, pred};
-ghost use lib.ListN.{length};
+ghost use Prim.Native.Nat.{pred};
 ghost use Rattle.rules.specs.Kinds.{Space, isSpace, isOpener, isCloser};
 ghost use Rattle.rules.specs.Lent.{lent};
 ghost use Rattle.rules.specs.Lexing.{Lexes};
 ghost use Rattle.lexer.specs.Cursor.{advanceOf};
 ghost use Rattle.lexer.specs.Results.{lexedMeant, lexedAt, refusedWith, refusedBy, CanAdvance, CanReport, CanStop, CanFinish, CanHalt, noteAt, verdictAt, haltedWith};
 ghost use Rattle.lexer.specs.Going.{roomOf, endsAfter, courseOf, stateAt};
-ghost use Rattle.lexer.specs.Mode.{modeOf};
-ghost use Rattle.lexer.specs.Running.{CanRun, Runs, LoneIf, ranFull};
+ghost use Rattle.lexer.specs.Running.{CanRun, Runs, behindOf, ranFull};
+use crate::Behind;
 use crate::Cursor;
 use crate::Lexed;
 use crate::Mode;
@@ -202,21 +201,23 @@ fn no_room(cur: Cursor, at: usize, end: usize, number: u8) -> RunEnd
     )
 }
 
-// Whether the step at `at`, which comes after a lexeme and before `stop`, is a Space of one byte. Many lexemes have one behind them, and a yes saves a turn of the loop; a no says nothing.
-fn lone_space(text: &[u8], at: usize, stop: usize, mode: Mode) -> bool
-    requires { ⌜ (stop ≤ length (now text)) × (mode ≡ modeOf (mode .top)) ⌝ }
-    ensures { λ r. ⌜ LoneIf r (now (text .entry)) at stop (mode .top) ⌝ }
+// The whitespace at `at`, behind a lexeme: outside strings and before `stop` it is the next step, and goes with the lexeme in the same turn of the loop.
+fn behind(text: &[u8], at: usize, stop: usize, mode: Mode) -> Behind
+    ensures { λ r. ⌜ r ≡ behindOf (now (text .entry)) at stop (mode .stop) ⌝ }
 {
-    if stop <= at {
-        return false;
+    if (mode.stop != 0) | (stop <= at) {
+        return Behind::Nothing;
     }
-    if text[at] != b' ' {
-        return false;
+    let run = scan::whitespace_behind(text, at);
+    let length = run.length;
+    if length == 0 {
+        return Behind::Nothing;
     }
-    if mode.stop != 0 {
-        return false;
+    let end = at + length;
+    if sublexers::is_blank(run.lines) {
+        return Behind::Blank(end);
     }
-    b' ' < basics::byte_at(text, at + 1)
+    Behind::Space(end)
 }
 
 // The places of the list; where none is kept, more than any text has lexemes.
@@ -305,9 +306,26 @@ pub(crate) fn run(
                     mode = next::mode_of(lent::top_state(skinds, depth));
                 } else {
                     cur = past_other(cur, kind, end);
-                    if lone_space(text, end, stop, mode) {
-                        cur = past_space(cur, end + 1);
-                        token = Token::Space;
+                    let space = behind(text, end, stop, mode);
+                    match space {
+                        Behind::Nothing => {}
+                        Behind::Space(after) => {
+                            cur = past_space(cur, after);
+                            token = Token::Space;
+                        }
+                        Behind::Blank(after) => {
+                            let blank = Entry {
+                                kind: kind::BLANK,
+                                at: pack(doc, shift + end, shift + after),
+                            };
+                            let next = cur.lexemes;
+                            if places <= next {
+                                return no_room(cur, end, after, refusal::LIST_FULL);
+                            }
+                            list::put(kinds, words, next, blank);
+                            cur = past_other(cur, kind::BLANK, after);
+                            token = Token::Blank;
+                        }
                     }
                 }
             }

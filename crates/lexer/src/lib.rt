@@ -38,6 +38,13 @@ pub struct Cursor {
     pub deepest: usize,
 }
 
+// The whitespace behind a lexeme, and where it ends.
+pub enum Behind {
+    Nothing,
+    Space(usize),
+    Blank(usize),
+}
+
 // Where steps came to: to the position where they were to end, with the last one's token, or to a step that was refused.
 pub enum RunEnd {
     Reached(Cursor, Token),

@@ -17,7 +17,8 @@ use Rattle.rules.specs.Value.{dedented, partBytes, valueWritten, valueOf
 use Rattle.rules.specs.Tidy.{gap, respaced, tidying}
 use Rattle.rules.specs.Walker.{opening, keptBad, isMisplaced, openerPut, walking}
 use Rattle.rules.specs.Tally.{tallied}
+use Rattle.rules.specs.Measuring.{measured}
 
 unfoldable pub computes : (doc places stack : ℕ) → List ℕ → Lexed
-unfolding isWhitespace isControl isDigit isLetter isPunctuation isOver127 classOf isIdentifierByte isHexDigit isBinaryDigit isCapital isNotLF isTwo isThree isFour charLength firstBadFrom firstBad encode isScalar spanOf newSpan lenOf trimStart trimEnd untilOf unionOf resolved isOpener isCloser isDigitOrUnderscore intLength exponentMark exponent fraction decimal prefixed number identifierLength keywordOrIdent identifier whitespace closer monograph punctuation outside unicodeDelim unicode4 singleEscape isInner closesQuote inside step openAfter unclosed traceFrom trace limited traceIn verdictOf lexedOf listing lexing isKeyword isIdentifier written isSingle isUnicode4 isUnicodeDelim hexDigit singleScalar unicodeScalar scalarOf escapeScalar scalarPut unescape effect partsOf partsIn partsCall partVerdict indentOf indentCall dedented partBytes valueWritten valueOf valueCall handedPart gap respaced tidying opening keptBad isMisplaced openerPut walking tallied
+unfolding isWhitespace isControl isDigit isLetter isPunctuation isOver127 classOf isIdentifierByte isHexDigit isBinaryDigit isCapital isNotLF isTwo isThree isFour charLength firstBadFrom firstBad encode isScalar spanOf newSpan lenOf trimStart trimEnd untilOf unionOf resolved isOpener isCloser isDigitOrUnderscore intLength exponentMark exponent fraction decimal prefixed number identifierLength keywordOrIdent identifier whitespace closer monograph punctuation outside unicodeDelim unicode4 singleEscape isInner closesQuote inside step openAfter unclosed traceFrom trace limited traceIn verdictOf lexedOf listing lexing isKeyword isIdentifier written isSingle isUnicode4 isUnicodeDelim hexDigit singleScalar unicodeScalar scalarOf escapeScalar scalarPut unescape effect partsOf partsIn partsCall partVerdict indentOf indentCall dedented partBytes valueWritten valueOf valueCall handedPart gap respaced tidying opening keptBad isMisplaced openerPut walking tallied measured
 computes = lexing

@@ -8,6 +8,8 @@ pub mod Arithmetic
 pub mod Every
 -- runs of bytes by position, as a loop meets them
 pub mod Runs
+-- a run of whitespace, measured
+pub mod Measuring
 -- spans and their two words
 pub mod Spans
 -- UTF-8: the function by position, and the RFC's grammar

@@ -13,6 +13,7 @@ use Rattle.rules.specs.Lent.{Lexeme, lexeme, arrays, wordsOf}
 use Rattle.rules.specs.Lexing.{Lexed, listing, lexing}
 use Rattle.rules.specs.Value.{Held, inOutput, valueCall, handed}
 use Rattle.rules.specs.Tidy.{respaced}
+use Rattle.rules.specs.Measuring.{Measured, measured}
 use Rattle.rules.proofs.Computes.{computes}
 
 -- ample memory for these texts
@@ -126,3 +127,18 @@ pub record WorkedTexts (doc : ℕ) : Type 0 where
 pub worked-texts : (doc : ℕ) → WorkedTexts doc
 unfolding computes
 worked-texts doc = record { sizes = refl; bytes = refl; listing = refl; tidied = refl; commented = refl }
+
+-- Runs of whitespace, measured: a byte follows the first, the third and the fifth, and none the others. Tab, LF, FF, CR and space are whitespace, 0x0B is not.
+abbrev pub run-of : (length lines looked : ℕ) → Measured
+run-of length lines looked = record { length = length; lines = lines; looked = looked }
+
+pub record MeasuredRuns : Type 0 where
+  pub none : measured (ascii "x ") ≡ run-of 0 0 1
+  pub nothing : measured (ascii "") ≡ run-of 0 0 0
+  pub one : measured (ascii " x") ≡ run-of 1 0 2
+  pub last : measured (ascii "  ") ≡ run-of 2 0 2
+  pub lines : measured (9 ∷ 10 ∷ 12 ∷ 13 ∷ 10 ∷ 32 ∷ 11 ∷ 32 ∷ []) ≡ run-of 6 2 7
+
+pub measured-runs : MeasuredRuns
+unfolding computes
+measured-runs = record { none = refl; nothing = refl; one = refl; last = refl; lines = refl }

@@ -1,4 +1,4 @@
--- The rules that everything here is proved against, in the order of document 01 (RCL text: lexemes, strings and tidy protocols).
+-- The rules that everything here is proved against, in the order of document 01 (RCL text: lexemes, strings and tidy protocols), then of document 02 (changes customers asked for later).
 -- Each file names the heading that it is written from. Nothing here is proved: laws stand in proofs/.
 
 -- how the other files write text, and what they read off the front of one
@@ -38,3 +38,6 @@ pub mod Tidy
 -- "Beside the line": the walker, the tally
 pub mod Walker
 pub mod Tally
+-- Document 02
+-- "Whitespace in one pass": what measuring a run answers
+pub mod Measuring

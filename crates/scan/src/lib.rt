@@ -11,8 +11,10 @@ ghost use lib.ListN.{length, drop};
 ghost use Rattle.rules.specs.Text.{is, run};
 ghost use Rattle.rules.specs.Bytes.{isDigit, isHexDigit, isNotLF, isWhitespace};
 ghost use Rattle.rules.specs.Step.{isDigitOrUnderscore};
+ghost use Rattle.rules.specs.Measuring.{measured};
 ghost use Rattle.scan.specs.Classes.{passes, isInnerFor};
-ghost use Rattle.scan.specs.Reach.{Reach, ReachIf, Stops, AloneIf, MeasuredAs};
+ghost use Rattle.scan.specs.Measuring.{measuredMeant, none, LooksAs, CanGrow, furtherOf, Passing};
+ghost use Rattle.scan.specs.Reach.{Stops};
 
 // The runs that are read seldom, or are short.
 pub enum Class {
@@ -212,10 +214,17 @@ pub fn inner_end(text: &[u8], at: usize, stop: u8) -> usize
     inner_bytes(text, at, stop)
 }
 
-// A run of whitespace: where it ends, and how many line ends it has.
+// A run of whitespace: how long it is, how many line ends it has, and how many bytes were looked at to measure it. The run goes on where these are as many as it is long; one more is the byte that ends it.
 pub struct Measured {
-    pub end: usize,
+    pub length: usize,
     pub lines: usize,
+    pub looked: usize,
+}
+
+// Bytes looked at one after the other: how many, and the last of them. All before it are spaces.
+struct Looked {
+    byte: u8,
+    count: usize,
 }
 
 fn is_whitespace(b: u8) -> bool
@@ -234,94 +243,130 @@ fn line_of(b: u8) -> usize
     0
 }
 
-// Whether 16 bytes are spaces.
-fn spaces_block(text: &[u8], at: usize) -> bool
-    requires { ⌜ at + 16 ≤ length (now text) ⌝ }
-    ensures { λ r. ⌜ ReachIf r (is " ") (now (text .entry)) at (at + 16) ⌝ }
+// Looks at `most` bytes, or at fewer until one is no space. This is the one place where whitespace is read, and each byte is counted where it is read.
+fn look(text: &[u8], at: usize, most: usize) -> Looked
+    requires { ⌜ at + most ≤ length (now text) ⌝ }
+    ensures { λ r. ⌜ LooksAs (now (text .entry)) at most r ⌝ }
 {
-    let mut all = true;
-    let mut j = 0;
-    while j < 16 {
-        all = all & (text[at + j] == b' ');
-        j += 1;
-    }
-    all
-}
-
-// Passes over blocks of 16 spaces.
-fn spaces_blocks(text: &[u8], at: usize) -> usize
-    requires { ⌜ at ≤ length (now text) ⌝ }
-    ensures { λ r. ⌜ Reach (is " ") (now (text .entry)) at r ⌝ }
-{
-    let n = text.len();
-    let mut i = at;
-    while 16 <= n - i {
-        if !spaces_block(text, i) {
-            return i;
-        }
-        i += 16;
-    }
-    i
-}
-
-// After a line end an indentation is likely, and a run that is long may go on: blocks of spaces are passed over.
-fn after_byte(text: &[u8], at: usize, likely: bool) -> usize
-    requires { ⌜ at ≤ length (now text) ⌝ }
-    ensures { λ r. ⌜ Reach (is " ") (now (text .entry)) at r ⌝ }
-{
-    if likely {
-        return spaces_blocks(text, at);
-    }
-    at
-}
-
-// Measures a run of whitespace and counts its line ends in one pass.
-fn whitespace_run(text: &[u8], at: usize) -> Measured
-    ensures { λ r. ⌜ MeasuredAs (now (text .entry)) at r ⌝ }
-{
-    let mut i = at;
-    let mut lines = 0;
-    while i < text.len() {
-        let b = text[i];
-        if !is_whitespace(b) {
-            return Measured {
-                end: i,
-                lines: lines,
+    let mut count = 0;
+    while count < most {
+        let b = text[at + count];
+        count += 1;
+        if b != b' ' {
+            return Looked {
+                byte: b,
+                count: count,
             };
         }
-        let likely = (b == b'\n') | (16 <= i - at) & (b == b' ');
-        lines += line_of(b);
-        i = after_byte(text, i + 1, likely);
     }
-    Measured {
-        end: i,
-        lines: lines,
+    Looked {
+        byte: b' ',
+        count: count,
     }
 }
 
-// Whether the whitespace is one space or LF: the byte behind it is over 0x20.
-fn stands_alone(text: &[u8], at: usize) -> bool
-    ensures { λ r. ⌜ AloneIf r (now (text .entry)) at ⌝ }
+// Looks at bytes until one is no space or the text ends, eight to a turn: a loop over a given number of bytes is written out by the optimiser, each tested before the next is read.
+fn spaces(text: &[u8], at: usize) -> Looked
+    requires { ⌜ at ≤ length (now text) ⌝ }
+    ensures { λ r. ⌜ LooksAs (now (text .entry)) at (length (now (text .entry)) - at) r ⌝ }
 {
-    if room(text, 1) <= at {
-        return false;
+    let mut looked = 0;
+    while 8 <= text.len() - (at + looked) {
+        let eight = look(text, at + looked, 8);
+        let b = eight.byte;
+        looked += eight.count;
+        if b != b' ' {
+            return Looked {
+                byte: b,
+                count: looked,
+            };
+        }
     }
-    let b = text[at];
-    if !((b == b' ') | (b == b'\n')) {
-        return false;
+    let few = look(text, at + looked, text.len() - (at + looked));
+    Looked {
+        byte: few.byte,
+        count: looked + few.count,
     }
-    b' ' < text[at + 1]
 }
 
-// Measures a run of whitespace. One space or LF alone is the most frequent, so it is tested first.
-pub fn whitespace(text: &[u8], at: usize) -> Measured
-    ensures { λ r. ⌜ MeasuredAs (now (text .entry)) at r ⌝ }
+// The measure after more bytes were looked at: all of them are the run's, or all but the last one.
+fn further(run: Measured, seen: Looked) -> Measured
+    requires { ⌜ CanGrow run seen ⌝ }
+    ensures { λ r. ⌜ r ≡ furtherOf run seen ⌝ }
 {
-    if stands_alone(text, at) {
+    let length = run.length;
+    let lines = run.lines;
+    let looked = run.looked;
+    let b = seen.byte;
+    let count = seen.count;
+    let before = count - 1;
+    if is_whitespace(b) {
         return Measured {
-            end: at + 1,
-            lines: line_of(text[at]),
+            length: length + count,
+            lines: lines + line_of(b),
+            looked: looked + count,
         };
     }
-    whitespace_run(text, at)
+    Measured {
+        length: length + before,
+        lines: lines,
+        looked: looked + count,
+    }
+}
+
+// Nothing looked at yet.
+fn unmeasured() -> Measured
+    ensures { λ r. ⌜ r ≡ none ⌝ }
+{
+    Measured {
+        length: 0,
+        lines: 0,
+        looked: 0,
+    }
+}
+
+// Goes on with a run until a byte ends it or the text does.
+fn rest(text: &[u8], at: usize, begun: Measured) -> Measured
+    requires { ⌜ Passing (now text) at begun ⌝ }
+    ensures { λ r. ⌜ measuredMeant r ≡ measured (drop at (now (text .entry))) ⌝ }
+{
+    let mut run = begun;
+    while (run.length == run.looked) & (at + run.length < text.len()) {
+        let seen = spaces(text, at + run.length);
+        run = further(run, seen);
+    }
+    run
+}
+
+// The first two bytes of a run: most runs behind a lexeme are one byte.
+fn first_two(text: &[u8], at: usize) -> Measured
+    ensures { λ r. ⌜ Passing (now (text .entry)) at r ⌝ }
+{
+    let nothing = unmeasured();
+    if text.len() <= at {
+        return nothing;
+    }
+    let seen = look(text, at, 1);
+    let first = further(nothing, seen);
+    if (first.length != first.looked) | (text.len() <= at + 1) {
+        return first;
+    }
+    let next = look(text, at + 1, 1);
+    further(first, next)
+}
+
+// Measures a run of whitespace in one pass.
+pub fn whitespace(text: &[u8], at: usize) -> Measured
+    ensures { λ r. ⌜ measuredMeant r ≡ measured (drop at (now (text .entry))) ⌝ }
+{
+    let nothing = unmeasured();
+    rest(text, at, nothing)
+}
+
+// The same behind a lexeme, where the run is short: its first two bytes are looked at apart, and the pass goes on from them.
+pub fn whitespace_behind(text: &[u8], at: usize) -> Measured
+    ensures { λ r. ⌜ measuredMeant r ≡ measured (drop at (now (text .entry))) ⌝ }
+{
+    let begun = first_two(text, at);
+    rest(text, at, begun)
 }

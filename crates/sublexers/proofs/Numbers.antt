@@ -10,13 +10,17 @@ use lib.Dec.{leb, eqb}
 use lib.ListN.{drop, getD, length}
 use lib.Seq.{drop-drop}
 use Rattle.rules.specs.Text.{is, begins, run}
-use Rattle.rules.specs.Bytes.{isWhitespace, isDigit, isBinaryDigit, isHexDigit}
+use Rattle.rules.specs.Bytes.{isDigit, isBinaryDigit, isHexDigit}
 use Rattle.rules.specs.Refusals.{NoBinaryDigit, NoHexDigit, NoFractionDigit, NoExponentDigit}
 use Rattle.rules.specs.Kinds.{Space, Blank, NumBinary, NumHexadecimal, NumDecimal}
 use Rattle.rules.specs.Step.{Step, found, stop, isUnderscore, isDigitOrUnderscore, intLength, exponentMark, exponent, fraction, decimal, prefixed, number, whitespace}
 use Rattle.rules.proofs.Text.{decide}
 use Rattle.rules.proofs.Runs.{starts-at, begins-more, begins-at, passes-inside}
-use Rattle.scan.specs.Reach.{linesOf}
+use Rattle.rules.specs.Measuring.{measured}
+use Rattle.rules.proofs.Measuring.{whitespace-measured}
+use Rattle.scan.specs.declared.Measured.{Measured}
+use Rattle.scan.specs.Measuring.{measuredMeant}
+use Rattle.scan.proofs.Measuring.{measured-run, measured-lines}
 use Rattle.sublexers.specs.ByClass.{fractionAlone}
 use Rattle.sublexers.specs.Outcome.{Outcome, lexemeTo, refusedAt, miscoded, outcome}
 
@@ -162,6 +166,5 @@ decimal-at t at =
     (then-at t (at + intLength (drop at t)) (fractionAlone (drop (at + intLength (drop at t)) t)))
 
 -- Whitespace
-pub whitespace-at : (t : List ℕ) (at : ℕ) → outcome at (whitespace (drop at t)) ≡ lexemeTo (cond (leb 2 (linesOf (drop at t))) Blank Space) (at + run isWhitespace (drop at t))
-unfolding whitespace linesOf
-whitespace-at t at = refl
+pub whitespace-at : (t : List ℕ) (at : ℕ) (m : Measured) → measuredMeant m ≡ measured (drop at t) → outcome at (whitespace (drop at t)) ≡ lexemeTo (cond (leb 2 (m .lines)) Blank Space) (at + m .length)
+whitespace-at t at m e = rw (measured-run t at m e, measured-lines t at m e) (ap (outcome at) (whitespace-measured (drop at t)))

@@ -16,6 +16,7 @@ pub use in_string::lex_in_string;
 pub use letter::lex_in_letter;
 pub use number::lex_in_number;
 pub use punct::lex_in_punct;
+pub use space::is_blank;
 pub use space::lex_in_space;
 ghost use mathlib.Core.Path.{_≡_};
 ghost use Rattle.token.specs.Codes.{codeOf};

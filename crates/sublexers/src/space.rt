@@ -5,6 +5,7 @@
 
 // Whitespace.
 ghost use mathlib.Core.Path.{_≡_};
+ghost use lib.Dec.{leb};
 ghost use lib.ListN.{drop};
 ghost use Rattle.rules.specs.Step.{whitespace};
 ghost use Rattle.sublexers.specs.Outcome.{outcome, stepMeant};
@@ -13,14 +14,20 @@ use crate::lexeme_to;
 use rules::kind;
 use token::Token;
 
+// Whether whitespace with so many line ends is a Blank.
+pub fn is_blank(lines: usize) -> bool
+    ensures { λ r. ⌜ r ≡ leb 2 lines ⌝ }
+{
+    2 <= lines
+}
+
 // A Space, or a Blank with two line ends or more.
 pub fn lex_in_space(text: &[u8], at: usize) -> Step
     ensures { λ r. ⌜ stepMeant r ≡ outcome at (whitespace (drop at (now (text .entry)))) ⌝ }
 {
     let run = scan::whitespace(text, at);
-    let lines = run.lines;
-    let end = run.end;
-    if 2 <= lines {
+    let end = at + run.length;
+    if is_blank(run.lines) {
         return lexeme_to(end, Token::Blank, kind::BLANK);
     }
     lexeme_to(end, Token::Space, kind::SPACE)

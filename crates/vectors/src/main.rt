@@ -4,6 +4,7 @@ mod documents;
 mod field;
 mod lexes;
 mod lists;
+mod spaces;
 mod spans;
 mod strings;
 mod tallies;
@@ -36,6 +37,10 @@ fn replay_text(line: &[u8], word: usize, rest: usize) -> bool {
     }
     if field::is(line, 0, word, b"document") {
         documents::document(line, rest);
+        return true;
+    }
+    if field::is(line, 0, word, b"whitespace") {
+        spaces::whitespace(line, rest);
         return true;
     }
     false

@@ -1,4 +1,4 @@
--- The loop stands where `Running` says; each way out and each way on is a law of `Running`. In these paths `loop .inv .0` is that invariant, `if1` the loop's test, `if2` the test for a Space, `if3` for an opener, `if4`, `if5` and `if7` for want of room, `if6` for an opener that ends the run, `if8` for a closer, `if9` for a Space behind the lexeme.
+-- The loop stands where `Running` says; each way out and each way on is a law of `Running`. In these paths `loop .inv .0` is that invariant, `if1` the loop's test, `if2` the test for a Space, `if3` for an opener, `if4`, `if5` and `if7` for want of room, `if6` for an opener that ends the run, `if8` for a closer, `match2` and `if9` for whitespace behind the lexeme and for want of room for it.
 use Prim.Native.Nat.{_-_, _<_, _^_}
 use mathlib.Core.Path.{_≡_, refl, sym, ap, _∙_}
 use native.Mathlib.Omega.{arith}
@@ -13,7 +13,7 @@ use Rattle.token.specs.declared.Opened.{Opened}
 use Rattle.lexer.specs.Going.{roomOf, courseOf, stateAt}
 use Rattle.lexer.specs.Mode.{modeOf}
 use Rattle.lexer.specs.declared.Mode.{Mode}
-use Rattle.lexer.proofs.Running.{Running, running-start, as-long, ends-not, space-ends, taken, token-code, in-document, refused-out, stack-full, opener-unlisted, other-unlisted, opener-fits, other-fits, can-advance, runs-less, ends-at, space-on, opener-long, opener-on, opener-out, other-on, other-shallow, other-top, lone-before, lone-taken, end-stop}
+use Rattle.lexer.proofs.Running.{Running, running-start, as-long, ends-not, space-ends, taken, token-code, in-document, refused-out, stack-full, opener-unlisted, other-unlisted, opener-fits, other-fits, can-advance, runs-less, ends-at, space-on, opener-long, opener-on, opener-out, other-on, other-shallow, other-top, space-behind, blank-behind, ahead-before, ahead-taken, ahead-words, ahead-unlisted, blank-opens, blank-closes, end-stop}
 use Rattle.lexer.proofs.lexing.run.Statement.{statement}
 use Rattle.lexer.proofs.lexing.run.Tie as tie
 
@@ -336,90 +336,267 @@ past-other-requires c κs =
     let o = sym (c .before .before .before .before .before .before .before .before .before .before .before .opens .ensures) ∙ c .before .before .before .before .before .before .before .before .before .before .if3 .left in
     (can-advance (i .0) h t (i .4), ne-eqb _ 0 (c .before .before .before .before .before .before .before .before .before .before .before .before .before .if2 .left), o, sym (c .before .closes .ensures) ∙ c .if8 .left)
 
-lone-space-requires : tie.Need-lone-space-requires Inv-loop μ-loop
-lone-space-requires c κs =
-    let i = c .before .before .before .before .before .before .before .before .before .before .before .before .before .before .before .before .before .before .before .before .before .before .loop .inv in
-    (i .0 .before, i .5)
+behind-requires : tie.Need-behind-requires Inv-loop μ-loop
+behind-requires c κs = search needs
 
-add-past-space : tie.Need-add-past-space Inv-loop μ-loop
-add-past-space c =
-    let i = c .before .before .before .before .before .before .before .before .before .before .before .before .before .before .before .before .before .before .before .before .before .before .before .before .loop .inv in
-    omega (arith, i .0 .small, i .0 .before, c .before .lone-space .ensures .before (c .if9 .taken))
-
-past-space-requires-2 : tie.Need-past-space-requires-2 Inv-loop μ-loop
-past-space-requires-2 c κs =
-    let i = c .before .before .before .before .before .before .before .before .before .before .before .before .before .before .before .before .before .before .before .before .before .before .before .before .loop .inv in
-    let h = c .before .before .before .before .before .before .before .before .before .before .before .before .before .before .before .before .before .before .before .before .before .before .if1 .taken in
-    let t = taken (i .0) h _ _ (c .before .before .before .before .before .before .before .before .before .before .before .before .before .before .before .before .before .before .answer .given .1) (c .before .before .before .before .before .before .before .before .before .before .before .before .before .before .before .before .before .before .before .before .next .ensures) in
-    let z = ne-eqb _ 0 (c .before .before .before .before .before .before .before .before .before .before .before .before .before .before .before .before .if2 .left) in
-    let o = sym (c .before .before .before .before .before .before .before .before .before .before .before .before .before .before .opens .ensures) ∙ c .before .before .before .before .before .before .before .before .before .before .before .before .before .if3 .left in
-    let n = other-fits (i .0) h t z o (omega (arith, i .1, c .before .before .before .before .before .before .before .before .before .before .before .before .if7 .left)) in
-    let e = ends-not (c .before .before .before .before .before .before .before .before .before .before .before .before .before .before .before .before .before .before .before .before .before .before .before .before .before .before .before .before .before .before .before .before .before .before .before .before .before .before .args .to-format) _ o in
-    let r = other-on (i .0) h t z n (c .before .before .before .before .before .before .before .before .before .before .before .before .before .before .before .pack .result) (c .before .before .before .before .before .before .before .before .before .before .before .before .before .before .before .pack .ensures) (c .before .before .before .before .before .before .before .before .before .put3 .ensures) _ o e (c .before .before .past-other .ensures) (other-top (i .0) h t o (sym (c .before .before .before .before .closes .ensures) ∙ c .before .before .before .if8 .left) (c .before .before .past-other .ensures)) in
-    let a = ends-at (i .0) h t (c .before .before .past-other .ensures) in
-    can-advance r (lone-before r a (c .if9 .taken) (c .before .lone-space .ensures)) (lone-taken r a (c .if9 .taken) (c .before .lone-space .ensures)) (i .4)
+enum-told-2 : tie.Need-enum-told-2 Inv-loop μ-loop
+enum-told-2 c = search needs
 
 loop-less-4 : tie.Need-loop-less-4 Inv-loop μ-loop
 loop-less-4 c =
     let i = c .before .before .before .before .before .before .before .before .before .before .before .before .before .before .before .before .before .before .before .before .before .before .before .before .before .loop .inv in
     let h = c .before .before .before .before .before .before .before .before .before .before .before .before .before .before .before .before .before .before .before .before .before .before .before .if1 .taken in
     let t = taken (i .0) h _ _ (c .before .before .before .before .before .before .before .before .before .before .before .before .before .before .before .before .before .before .before .answer .given .1) (c .before .before .before .before .before .before .before .before .before .before .before .before .before .before .before .before .before .before .before .before .before .next .ensures) in
-    let z = ne-eqb _ 0 (c .before .before .before .before .before .before .before .before .before .before .before .before .before .before .before .before .before .if2 .left) in
-    let o = sym (c .before .before .before .before .before .before .before .before .before .before .before .before .before .before .before .opens .ensures) ∙ c .before .before .before .before .before .before .before .before .before .before .before .before .before .before .if3 .left in
-    let n = other-fits (i .0) h t z o (omega (arith, i .1, c .before .before .before .before .before .before .before .before .before .before .before .before .before .if7 .left)) in
-    let e = ends-not (c .before .before .before .before .before .before .before .before .before .before .before .before .before .before .before .before .before .before .before .before .before .before .before .before .before .before .before .before .before .before .before .before .before .before .before .before .before .before .before .args .to-format) _ o in
-    let r = other-on (i .0) h t z n (c .before .before .before .before .before .before .before .before .before .before .before .before .before .before .before .before .pack .result) (c .before .before .before .before .before .before .before .before .before .before .before .before .before .before .before .before .pack .ensures) (c .before .before .before .before .before .before .before .before .before .before .put3 .ensures) _ o e (c .before .before .before .past-other .ensures) (other-top (i .0) h t o (sym (c .before .before .before .before .before .closes .ensures) ∙ c .before .before .before .before .if8 .left) (c .before .before .before .past-other .ensures)) in
-    let a = ends-at (i .0) h t (c .before .before .before .past-other .ensures) in
-    omega (arith, runs-less (i .0) h t _ (c .before .before .before .past-other .ensures), runs-less r (lone-before r a (c .before .if9 .taken) (c .before .before .lone-space .ensures)) (lone-taken r a (c .before .if9 .taken) (c .before .before .lone-space .ensures)) _ (c .past-space2 .ensures))
+    runs-less (i .0) h t _ (c .before .before .before .past-other .ensures)
 
 loop-again-4 : tie.Need-loop-again-4 Inv-loop μ-loop
-unfolding codeOf
 loop-again-4 c =
     let i = c .before .before .before .before .before .before .before .before .before .before .before .before .before .before .before .before .before .before .before .before .before .before .before .before .before .loop .inv in
     let h = c .before .before .before .before .before .before .before .before .before .before .before .before .before .before .before .before .before .before .before .before .before .before .before .if1 .taken in
     let t = taken (i .0) h _ _ (c .before .before .before .before .before .before .before .before .before .before .before .before .before .before .before .before .before .before .before .answer .given .1) (c .before .before .before .before .before .before .before .before .before .before .before .before .before .before .before .before .before .before .before .before .before .next .ensures) in
+    let tc = token-code (i .0) h _ _ (c .before .before .before .before .before .before .before .before .before .before .before .before .before .before .before .before .before .before .before .answer .given .1) (c .before .before .before .before .before .before .before .before .before .before .before .before .before .before .before .before .before .before .before .before .before .next .ensures) in
     let z = ne-eqb _ 0 (c .before .before .before .before .before .before .before .before .before .before .before .before .before .before .before .before .before .if2 .left) in
     let o = sym (c .before .before .before .before .before .before .before .before .before .before .before .before .before .before .before .opens .ensures) ∙ c .before .before .before .before .before .before .before .before .before .before .before .before .before .before .if3 .left in
     let n = other-fits (i .0) h t z o (omega (arith, i .1, c .before .before .before .before .before .before .before .before .before .before .before .before .before .if7 .left)) in
     let e = ends-not (c .before .before .before .before .before .before .before .before .before .before .before .before .before .before .before .before .before .before .before .before .before .before .before .before .before .before .before .before .before .before .before .before .before .before .before .before .before .before .before .args .to-format) _ o in
     let r = other-on (i .0) h t z n (c .before .before .before .before .before .before .before .before .before .before .before .before .before .before .before .before .pack .result) (c .before .before .before .before .before .before .before .before .before .before .before .before .before .before .before .before .pack .ensures) (c .before .before .before .before .before .before .before .before .before .before .put3 .ensures) _ o e (c .before .before .before .past-other .ensures) (other-top (i .0) h t o (sym (c .before .before .before .before .before .closes .ensures) ∙ c .before .before .before .before .if8 .left) (c .before .before .before .past-other .ensures)) in
-    let a = ends-at (i .0) h t (c .before .before .before .past-other .ensures) in
-    (space-on r (lone-before r a (c .before .if9 .taken) (c .before .before .lone-space .ensures)) (lone-taken r a (c .before .if9 .taken) (c .before .before .lone-space .ensures)) refl (space-ends (c .before .before .before .before .before .before .before .before .before .before .before .before .before .before .before .before .before .before .before .before .before .before .before .before .before .before .before .before .before .before .before .before .before .before .before .before .before .before .before .args .to-format) 0 refl) (c .past-space2 .ensures), i .1, i .2, i .3, i .4, i .5)
+    (rw (← tc) r, i .1, i .2, i .3, i .4, i .5)
+
+enum-known-space : tie.Need-enum-known-space Inv-loop μ-loop
+enum-known-space c = search needs
+
+past-space-requires-2 : tie.Need-past-space-requires-2 Inv-loop μ-loop
+past-space-requires-2 c κs =
+    let i = c .before .before .before .before .before .before .before .before .before .before .before .before .before .before .before .before .before .before .before .before .before .before .before .before .before .before .loop .inv in
+    let h = c .before .before .before .before .before .before .before .before .before .before .before .before .before .before .before .before .before .before .before .before .before .before .before .before .if1 .taken in
+    let t = taken (i .0) h _ _ (c .before .before .before .before .before .before .before .before .before .before .before .before .before .before .before .before .before .before .before .before .answer .given .1) (c .before .before .before .before .before .before .before .before .before .before .before .before .before .before .before .before .before .before .before .before .before .before .next .ensures) in
+    let z = ne-eqb _ 0 (c .before .before .before .before .before .before .before .before .before .before .before .before .before .before .before .before .before .before .if2 .left) in
+    let o = sym (c .before .before .before .before .before .before .before .before .before .before .before .before .before .before .before .before .opens .ensures) ∙ c .before .before .before .before .before .before .before .before .before .before .before .before .before .before .before .if3 .left in
+    let n = other-fits (i .0) h t z o (omega (arith, i .1, c .before .before .before .before .before .before .before .before .before .before .before .before .before .before .if7 .left)) in
+    let e = ends-not (c .before .before .before .before .before .before .before .before .before .before .before .before .before .before .before .before .before .before .before .before .before .before .before .before .before .before .before .before .before .before .before .before .before .before .before .before .before .before .before .before .args .to-format) _ o in
+    let r = other-on (i .0) h t z n (c .before .before .before .before .before .before .before .before .before .before .before .before .before .before .before .before .before .pack .result) (c .before .before .before .before .before .before .before .before .before .before .before .before .before .before .before .before .before .pack .ensures) (c .before .before .before .before .before .before .before .before .before .before .before .put3 .ensures) _ o e (c .before .before .before .before .past-other .ensures) (other-top (i .0) h t o (sym (c .before .before .before .before .before .before .closes .ensures) ∙ c .before .before .before .before .before .if8 .left) (c .before .before .before .before .past-other .ensures)) in
+    let a = ends-at (i .0) h t (c .before .before .before .before .past-other .ensures) in
+    let x = space-behind r a (c .before .before .before .before .before .before .before .before .before .before .before .before .before .before .before .before .before .before .before .before .before .before .before .before .before .before .loop .mode) (i .5) (c .before .space .given .1) (c .before .before .before .behind .ensures) in
+    let b = ahead-before r a x in
+    let y = ahead-taken r a x in
+    can-advance r b y (i .4)
 
 loop-less-5 : tie.Need-loop-less-5 Inv-loop μ-loop
 loop-less-5 c =
-    let i = c .before .before .before .before .before .before .before .before .before .before .before .before .before .before .before .before .before .before .before .before .before .before .before .before .loop .inv in
-    let h = c .before .before .before .before .before .before .before .before .before .before .before .before .before .before .before .before .before .before .before .before .before .before .if1 .taken in
-    let t = taken (i .0) h _ _ (c .before .before .before .before .before .before .before .before .before .before .before .before .before .before .before .before .before .before .answer .given .1) (c .before .before .before .before .before .before .before .before .before .before .before .before .before .before .before .before .before .before .before .before .next .ensures) in
-    runs-less (i .0) h t _ (c .before .before .past-other .ensures)
+    let i = c .before .before .before .before .before .before .before .before .before .before .before .before .before .before .before .before .before .before .before .before .before .before .before .before .before .before .before .loop .inv in
+    let h = c .before .before .before .before .before .before .before .before .before .before .before .before .before .before .before .before .before .before .before .before .before .before .before .before .before .if1 .taken in
+    let t = taken (i .0) h _ _ (c .before .before .before .before .before .before .before .before .before .before .before .before .before .before .before .before .before .before .before .before .before .answer .given .1) (c .before .before .before .before .before .before .before .before .before .before .before .before .before .before .before .before .before .before .before .before .before .before .before .next .ensures) in
+    let z = ne-eqb _ 0 (c .before .before .before .before .before .before .before .before .before .before .before .before .before .before .before .before .before .before .before .if2 .left) in
+    let o = sym (c .before .before .before .before .before .before .before .before .before .before .before .before .before .before .before .before .before .opens .ensures) ∙ c .before .before .before .before .before .before .before .before .before .before .before .before .before .before .before .before .if3 .left in
+    let n = other-fits (i .0) h t z o (omega (arith, i .1, c .before .before .before .before .before .before .before .before .before .before .before .before .before .before .before .if7 .left)) in
+    let e = ends-not (c .before .before .before .before .before .before .before .before .before .before .before .before .before .before .before .before .before .before .before .before .before .before .before .before .before .before .before .before .before .before .before .before .before .before .before .before .before .before .before .before .before .args .to-format) _ o in
+    let r = other-on (i .0) h t z n (c .before .before .before .before .before .before .before .before .before .before .before .before .before .before .before .before .before .before .pack .result) (c .before .before .before .before .before .before .before .before .before .before .before .before .before .before .before .before .before .before .pack .ensures) (c .before .before .before .before .before .before .before .before .before .before .before .before .put3 .ensures) _ o e (c .before .before .before .before .before .past-other .ensures) (other-top (i .0) h t o (sym (c .before .before .before .before .before .before .before .closes .ensures) ∙ c .before .before .before .before .before .before .if8 .left) (c .before .before .before .before .before .past-other .ensures)) in
+    let a = ends-at (i .0) h t (c .before .before .before .before .before .past-other .ensures) in
+    let x = space-behind r a (c .before .before .before .before .before .before .before .before .before .before .before .before .before .before .before .before .before .before .before .before .before .before .before .before .before .before .before .loop .mode) (i .5) (c .before .before .space .given .1) (c .before .before .before .before .behind .ensures) in
+    let b = ahead-before r a x in
+    let y = ahead-taken r a x in
+    omega (arith, runs-less (i .0) h t _ (c .before .before .before .before .before .past-other .ensures), runs-less r b y _ (c .past-space2 .ensures))
 
 loop-again-5 : tie.Need-loop-again-5 Inv-loop μ-loop
+unfolding codeOf
 loop-again-5 c =
-    let i = c .before .before .before .before .before .before .before .before .before .before .before .before .before .before .before .before .before .before .before .before .before .before .before .before .loop .inv in
-    let h = c .before .before .before .before .before .before .before .before .before .before .before .before .before .before .before .before .before .before .before .before .before .before .if1 .taken in
-    let t = taken (i .0) h _ _ (c .before .before .before .before .before .before .before .before .before .before .before .before .before .before .before .before .before .before .answer .given .1) (c .before .before .before .before .before .before .before .before .before .before .before .before .before .before .before .before .before .before .before .before .next .ensures) in
-    let tc = token-code (i .0) h _ _ (c .before .before .before .before .before .before .before .before .before .before .before .before .before .before .before .before .before .before .answer .given .1) (c .before .before .before .before .before .before .before .before .before .before .before .before .before .before .before .before .before .before .before .before .next .ensures) in
-    let z = ne-eqb _ 0 (c .before .before .before .before .before .before .before .before .before .before .before .before .before .before .before .before .if2 .left) in
-    let o = sym (c .before .before .before .before .before .before .before .before .before .before .before .before .before .before .opens .ensures) ∙ c .before .before .before .before .before .before .before .before .before .before .before .before .before .if3 .left in
-    let n = other-fits (i .0) h t z o (omega (arith, i .1, c .before .before .before .before .before .before .before .before .before .before .before .before .if7 .left)) in
-    let e = ends-not (c .before .before .before .before .before .before .before .before .before .before .before .before .before .before .before .before .before .before .before .before .before .before .before .before .before .before .before .before .before .before .before .before .before .before .before .before .before .before .args .to-format) _ o in
-    let r = other-on (i .0) h t z n (c .before .before .before .before .before .before .before .before .before .before .before .before .before .before .before .pack .result) (c .before .before .before .before .before .before .before .before .before .before .before .before .before .before .before .pack .ensures) (c .before .before .before .before .before .before .before .before .before .put3 .ensures) _ o e (c .before .before .past-other .ensures) (other-top (i .0) h t o (sym (c .before .before .before .before .closes .ensures) ∙ c .before .before .before .if8 .left) (c .before .before .past-other .ensures)) in
-    (rw (← tc) r, i .1, i .2, i .3, i .4, i .5)
+    let i = c .before .before .before .before .before .before .before .before .before .before .before .before .before .before .before .before .before .before .before .before .before .before .before .before .before .before .before .loop .inv in
+    let h = c .before .before .before .before .before .before .before .before .before .before .before .before .before .before .before .before .before .before .before .before .before .before .before .before .before .if1 .taken in
+    let t = taken (i .0) h _ _ (c .before .before .before .before .before .before .before .before .before .before .before .before .before .before .before .before .before .before .before .before .before .answer .given .1) (c .before .before .before .before .before .before .before .before .before .before .before .before .before .before .before .before .before .before .before .before .before .before .before .next .ensures) in
+    let z = ne-eqb _ 0 (c .before .before .before .before .before .before .before .before .before .before .before .before .before .before .before .before .before .before .before .if2 .left) in
+    let o = sym (c .before .before .before .before .before .before .before .before .before .before .before .before .before .before .before .before .before .opens .ensures) ∙ c .before .before .before .before .before .before .before .before .before .before .before .before .before .before .before .before .if3 .left in
+    let n = other-fits (i .0) h t z o (omega (arith, i .1, c .before .before .before .before .before .before .before .before .before .before .before .before .before .before .before .if7 .left)) in
+    let e = ends-not (c .before .before .before .before .before .before .before .before .before .before .before .before .before .before .before .before .before .before .before .before .before .before .before .before .before .before .before .before .before .before .before .before .before .before .before .before .before .before .before .before .before .args .to-format) _ o in
+    let r = other-on (i .0) h t z n (c .before .before .before .before .before .before .before .before .before .before .before .before .before .before .before .before .before .before .pack .result) (c .before .before .before .before .before .before .before .before .before .before .before .before .before .before .before .before .before .before .pack .ensures) (c .before .before .before .before .before .before .before .before .before .before .before .before .put3 .ensures) _ o e (c .before .before .before .before .before .past-other .ensures) (other-top (i .0) h t o (sym (c .before .before .before .before .before .before .before .closes .ensures) ∙ c .before .before .before .before .before .before .if8 .left) (c .before .before .before .before .before .past-other .ensures)) in
+    let a = ends-at (i .0) h t (c .before .before .before .before .before .past-other .ensures) in
+    let x = space-behind r a (c .before .before .before .before .before .before .before .before .before .before .before .before .before .before .before .before .before .before .before .before .before .before .before .before .before .before .before .loop .mode) (i .5) (c .before .before .space .given .1) (c .before .before .before .before .behind .ensures) in
+    let b = ahead-before r a x in
+    let y = ahead-taken r a x in
+    (space-on r b y refl (space-ends (c .before .before .before .before .before .before .before .before .before .before .before .before .before .before .before .before .before .before .before .before .before .before .before .before .before .before .before .before .before .before .before .before .before .before .before .before .before .before .before .before .before .args .to-format) _ refl) (c .past-space2 .ensures), i .1, i .2, i .3, i .4, i .5)
+
+enum-known-space-2 : tie.Need-enum-known-space-2 Inv-loop μ-loop
+enum-known-space-2 c = search needs
+
+add-pack-3 : tie.Need-add-pack-3 Inv-loop μ-loop
+add-pack-3 c =
+    let i = c .before .before .before .before .before .before .before .before .before .before .before .before .before .before .before .before .before .before .before .before .before .before .before .before .before .before .loop .inv in
+    let h = c .before .before .before .before .before .before .before .before .before .before .before .before .before .before .before .before .before .before .before .before .before .before .before .before .if1 .taken in
+    let t = taken (i .0) h _ _ (c .before .before .before .before .before .before .before .before .before .before .before .before .before .before .before .before .before .before .before .before .answer .given .1) (c .before .before .before .before .before .before .before .before .before .before .before .before .before .before .before .before .before .before .before .before .before .before .next .ensures) in
+    let z = ne-eqb _ 0 (c .before .before .before .before .before .before .before .before .before .before .before .before .before .before .before .before .before .before .if2 .left) in
+    let o = sym (c .before .before .before .before .before .before .before .before .before .before .before .before .before .before .before .before .opens .ensures) ∙ c .before .before .before .before .before .before .before .before .before .before .before .before .before .before .before .if3 .left in
+    let n = other-fits (i .0) h t z o (omega (arith, i .1, c .before .before .before .before .before .before .before .before .before .before .before .before .before .before .if7 .left)) in
+    let e = ends-not (c .before .before .before .before .before .before .before .before .before .before .before .before .before .before .before .before .before .before .before .before .before .before .before .before .before .before .before .before .before .before .before .before .before .before .before .before .before .before .before .before .args .to-format) _ o in
+    let r = other-on (i .0) h t z n (c .before .before .before .before .before .before .before .before .before .before .before .before .before .before .before .before .before .pack .result) (c .before .before .before .before .before .before .before .before .before .before .before .before .before .before .before .before .before .pack .ensures) (c .before .before .before .before .before .before .before .before .before .before .before .put3 .ensures) _ o e (c .before .before .before .before .past-other .ensures) (other-top (i .0) h t o (sym (c .before .before .before .before .before .before .closes .ensures) ∙ c .before .before .before .before .before .if8 .left) (c .before .before .before .before .past-other .ensures)) in
+    let a = ends-at (i .0) h t (c .before .before .before .before .past-other .ensures) in
+    let x = blank-behind r a (c .before .before .before .before .before .before .before .before .before .before .before .before .before .before .before .before .before .before .before .before .before .before .before .before .before .before .loop .mode) (i .5) (c .before .space2 .given .1) (c .before .before .before .behind .ensures) in
+    let b = ahead-before r a x in
+    let y = ahead-taken r a x in
+    omega (arith, a, in-document r b y .0)
+
+add-pack-4 : tie.Need-add-pack-4 Inv-loop μ-loop
+add-pack-4 c =
+    let i = c .before .before .before .before .before .before .before .before .before .before .before .before .before .before .before .before .before .before .before .before .before .before .before .before .before .before .loop .inv in
+    let h = c .before .before .before .before .before .before .before .before .before .before .before .before .before .before .before .before .before .before .before .before .before .before .before .before .if1 .taken in
+    let t = taken (i .0) h _ _ (c .before .before .before .before .before .before .before .before .before .before .before .before .before .before .before .before .before .before .before .before .answer .given .1) (c .before .before .before .before .before .before .before .before .before .before .before .before .before .before .before .before .before .before .before .before .before .before .next .ensures) in
+    let z = ne-eqb _ 0 (c .before .before .before .before .before .before .before .before .before .before .before .before .before .before .before .before .before .before .if2 .left) in
+    let o = sym (c .before .before .before .before .before .before .before .before .before .before .before .before .before .before .before .before .opens .ensures) ∙ c .before .before .before .before .before .before .before .before .before .before .before .before .before .before .before .if3 .left in
+    let n = other-fits (i .0) h t z o (omega (arith, i .1, c .before .before .before .before .before .before .before .before .before .before .before .before .before .before .if7 .left)) in
+    let e = ends-not (c .before .before .before .before .before .before .before .before .before .before .before .before .before .before .before .before .before .before .before .before .before .before .before .before .before .before .before .before .before .before .before .before .before .before .before .before .before .before .before .before .args .to-format) _ o in
+    let r = other-on (i .0) h t z n (c .before .before .before .before .before .before .before .before .before .before .before .before .before .before .before .before .before .pack .result) (c .before .before .before .before .before .before .before .before .before .before .before .before .before .before .before .before .before .pack .ensures) (c .before .before .before .before .before .before .before .before .before .before .before .put3 .ensures) _ o e (c .before .before .before .before .past-other .ensures) (other-top (i .0) h t o (sym (c .before .before .before .before .before .before .closes .ensures) ∙ c .before .before .before .before .before .if8 .left) (c .before .before .before .before .past-other .ensures)) in
+    let a = ends-at (i .0) h t (c .before .before .before .before .past-other .ensures) in
+    let x = blank-behind r a (c .before .before .before .before .before .before .before .before .before .before .before .before .before .before .before .before .before .before .before .before .before .before .before .before .before .before .loop .mode) (i .5) (c .before .space2 .given .1) (c .before .before .before .behind .ensures) in
+    let b = ahead-before r a x in
+    let y = ahead-taken r a x in
+    omega (arith, in-document r b y .1)
+
+pack-requires-2 : tie.Need-pack-requires-2 Inv-loop μ-loop
+pack-requires-2 c κs =
+    let i = c .before .before .before .before .before .before .before .before .before .before .before .before .before .before .before .before .before .before .before .before .before .before .before .before .before .before .loop .inv in
+    let h = c .before .before .before .before .before .before .before .before .before .before .before .before .before .before .before .before .before .before .before .before .before .before .before .before .if1 .taken in
+    let t = taken (i .0) h _ _ (c .before .before .before .before .before .before .before .before .before .before .before .before .before .before .before .before .before .before .before .before .answer .given .1) (c .before .before .before .before .before .before .before .before .before .before .before .before .before .before .before .before .before .before .before .before .before .before .next .ensures) in
+    let z = ne-eqb _ 0 (c .before .before .before .before .before .before .before .before .before .before .before .before .before .before .before .before .before .before .if2 .left) in
+    let o = sym (c .before .before .before .before .before .before .before .before .before .before .before .before .before .before .before .before .opens .ensures) ∙ c .before .before .before .before .before .before .before .before .before .before .before .before .before .before .before .if3 .left in
+    let n = other-fits (i .0) h t z o (omega (arith, i .1, c .before .before .before .before .before .before .before .before .before .before .before .before .before .before .if7 .left)) in
+    let e = ends-not (c .before .before .before .before .before .before .before .before .before .before .before .before .before .before .before .before .before .before .before .before .before .before .before .before .before .before .before .before .before .before .before .before .before .before .before .before .before .before .before .before .args .to-format) _ o in
+    let r = other-on (i .0) h t z n (c .before .before .before .before .before .before .before .before .before .before .before .before .before .before .before .before .before .pack .result) (c .before .before .before .before .before .before .before .before .before .before .before .before .before .before .before .before .before .pack .ensures) (c .before .before .before .before .before .before .before .before .before .before .before .put3 .ensures) _ o e (c .before .before .before .before .past-other .ensures) (other-top (i .0) h t o (sym (c .before .before .before .before .before .before .closes .ensures) ∙ c .before .before .before .before .before .if8 .left) (c .before .before .before .before .past-other .ensures)) in
+    let a = ends-at (i .0) h t (c .before .before .before .before .past-other .ensures) in
+    let x = blank-behind r a (c .before .before .before .before .before .before .before .before .before .before .before .before .before .before .before .before .before .before .before .before .before .before .before .before .before .before .loop .mode) (i .5) (c .before .space2 .given .1) (c .before .before .before .behind .ensures) in
+    let b = ahead-before r a x in
+    let y = ahead-taken r a x in
+    (omega (arith, a, in-document r b y .0), in-document r b y .1)
+
+no-room-requires-4 : tie.Need-no-room-requires-4 Inv-loop μ-loop
+no-room-requires-4 c κs = search needs
 
 same-length-21 : tie.Need-same-length-21 Inv-loop μ-loop
-same-length-21 c = as-long (c .before .before .loop .inv .0) .list .kinds
+same-length-21 c =
+    let i = c .before .before .before .before .before .before .before .before .before .before .before .before .before .before .before .before .before .before .before .before .before .before .before .before .before .before .before .before .before .loop .inv in
+    let h = c .before .before .before .before .before .before .before .before .before .before .before .before .before .before .before .before .before .before .before .before .before .before .before .before .before .before .before .if1 .taken in
+    let t = taken (i .0) h _ _ (c .before .before .before .before .before .before .before .before .before .before .before .before .before .before .before .before .before .before .before .before .before .before .before .answer .given .1) (c .before .before .before .before .before .before .before .before .before .before .before .before .before .before .before .before .before .before .before .before .before .before .before .before .before .next .ensures) in
+    let z = ne-eqb _ 0 (c .before .before .before .before .before .before .before .before .before .before .before .before .before .before .before .before .before .before .before .before .before .if2 .left) in
+    let o = sym (c .before .before .before .before .before .before .before .before .before .before .before .before .before .before .before .before .before .before .before .opens .ensures) ∙ c .before .before .before .before .before .before .before .before .before .before .before .before .before .before .before .before .before .before .if3 .left in
+    let n = other-fits (i .0) h t z o (omega (arith, i .1, c .before .before .before .before .before .before .before .before .before .before .before .before .before .before .before .before .before .if7 .left)) in
+    let e = ends-not (c .before .before .before .before .before .before .before .before .before .before .before .before .before .before .before .before .before .before .before .before .before .before .before .before .before .before .before .before .before .before .before .before .before .before .before .before .before .before .before .before .before .before .before .args .to-format) _ o in
+    let r = other-on (i .0) h t z n (c .before .before .before .before .before .before .before .before .before .before .before .before .before .before .before .before .before .before .before .before .pack .result) (c .before .before .before .before .before .before .before .before .before .before .before .before .before .before .before .before .before .before .before .before .pack .ensures) (c .before .before .before .before .before .before .before .before .before .before .before .before .before .before .put3 .ensures) _ o e (c .before .before .before .before .before .before .before .past-other .ensures) (other-top (i .0) h t o (sym (c .before .before .before .before .before .before .before .before .before .closes .ensures) ∙ c .before .before .before .before .before .before .before .before .if8 .left) (c .before .before .before .before .before .before .before .past-other .ensures)) in
+    as-long r .list .kinds
 
 same-length-22 : tie.Need-same-length-22 Inv-loop μ-loop
-same-length-22 c = as-long (c .before .before .loop .inv .0) .list .words
+same-length-22 c =
+    let i = c .before .before .before .before .before .before .before .before .before .before .before .before .before .before .before .before .before .before .before .before .before .before .before .before .before .before .before .before .before .loop .inv in
+    let h = c .before .before .before .before .before .before .before .before .before .before .before .before .before .before .before .before .before .before .before .before .before .before .before .before .before .before .before .if1 .taken in
+    let t = taken (i .0) h _ _ (c .before .before .before .before .before .before .before .before .before .before .before .before .before .before .before .before .before .before .before .before .before .before .before .answer .given .1) (c .before .before .before .before .before .before .before .before .before .before .before .before .before .before .before .before .before .before .before .before .before .before .before .before .before .next .ensures) in
+    let z = ne-eqb _ 0 (c .before .before .before .before .before .before .before .before .before .before .before .before .before .before .before .before .before .before .before .before .before .if2 .left) in
+    let o = sym (c .before .before .before .before .before .before .before .before .before .before .before .before .before .before .before .before .before .before .before .opens .ensures) ∙ c .before .before .before .before .before .before .before .before .before .before .before .before .before .before .before .before .before .before .if3 .left in
+    let n = other-fits (i .0) h t z o (omega (arith, i .1, c .before .before .before .before .before .before .before .before .before .before .before .before .before .before .before .before .before .if7 .left)) in
+    let e = ends-not (c .before .before .before .before .before .before .before .before .before .before .before .before .before .before .before .before .before .before .before .before .before .before .before .before .before .before .before .before .before .before .before .before .before .before .before .before .before .before .before .before .before .before .before .args .to-format) _ o in
+    let r = other-on (i .0) h t z n (c .before .before .before .before .before .before .before .before .before .before .before .before .before .before .before .before .before .before .before .before .pack .result) (c .before .before .before .before .before .before .before .before .before .before .before .before .before .before .before .before .before .before .before .before .pack .ensures) (c .before .before .before .before .before .before .before .before .before .before .before .before .before .before .put3 .ensures) _ o e (c .before .before .before .before .before .before .before .past-other .ensures) (other-top (i .0) h t o (sym (c .before .before .before .before .before .before .before .before .before .closes .ensures) ∙ c .before .before .before .before .before .before .before .before .if8 .left) (c .before .before .before .before .before .before .before .past-other .ensures)) in
+    as-long r .list .words
 
 same-length-23 : tie.Need-same-length-23 Inv-loop μ-loop
-same-length-23 c = as-long (c .before .before .loop .inv .0) .stack .kinds
+same-length-23 c =
+    let i = c .before .before .before .before .before .before .before .before .before .before .before .before .before .before .before .before .before .before .before .before .before .before .before .before .before .before .before .before .before .loop .inv in
+    let h = c .before .before .before .before .before .before .before .before .before .before .before .before .before .before .before .before .before .before .before .before .before .before .before .before .before .before .before .if1 .taken in
+    let t = taken (i .0) h _ _ (c .before .before .before .before .before .before .before .before .before .before .before .before .before .before .before .before .before .before .before .before .before .before .before .answer .given .1) (c .before .before .before .before .before .before .before .before .before .before .before .before .before .before .before .before .before .before .before .before .before .before .before .before .before .next .ensures) in
+    let z = ne-eqb _ 0 (c .before .before .before .before .before .before .before .before .before .before .before .before .before .before .before .before .before .before .before .before .before .if2 .left) in
+    let o = sym (c .before .before .before .before .before .before .before .before .before .before .before .before .before .before .before .before .before .before .before .opens .ensures) ∙ c .before .before .before .before .before .before .before .before .before .before .before .before .before .before .before .before .before .before .if3 .left in
+    let n = other-fits (i .0) h t z o (omega (arith, i .1, c .before .before .before .before .before .before .before .before .before .before .before .before .before .before .before .before .before .if7 .left)) in
+    let e = ends-not (c .before .before .before .before .before .before .before .before .before .before .before .before .before .before .before .before .before .before .before .before .before .before .before .before .before .before .before .before .before .before .before .before .before .before .before .before .before .before .before .before .before .before .before .args .to-format) _ o in
+    let r = other-on (i .0) h t z n (c .before .before .before .before .before .before .before .before .before .before .before .before .before .before .before .before .before .before .before .before .pack .result) (c .before .before .before .before .before .before .before .before .before .before .before .before .before .before .before .before .before .before .before .before .pack .ensures) (c .before .before .before .before .before .before .before .before .before .before .before .before .before .before .put3 .ensures) _ o e (c .before .before .before .before .before .before .before .past-other .ensures) (other-top (i .0) h t o (sym (c .before .before .before .before .before .before .before .before .before .closes .ensures) ∙ c .before .before .before .before .before .before .before .before .if8 .left) (c .before .before .before .before .before .before .before .past-other .ensures)) in
+    as-long r .stack .kinds
 
 same-length-24 : tie.Need-same-length-24 Inv-loop μ-loop
-same-length-24 c = as-long (c .before .before .loop .inv .0) .stack .words
+same-length-24 c =
+    let i = c .before .before .before .before .before .before .before .before .before .before .before .before .before .before .before .before .before .before .before .before .before .before .before .before .before .before .before .before .before .loop .inv in
+    let h = c .before .before .before .before .before .before .before .before .before .before .before .before .before .before .before .before .before .before .before .before .before .before .before .before .before .before .before .if1 .taken in
+    let t = taken (i .0) h _ _ (c .before .before .before .before .before .before .before .before .before .before .before .before .before .before .before .before .before .before .before .before .before .before .before .answer .given .1) (c .before .before .before .before .before .before .before .before .before .before .before .before .before .before .before .before .before .before .before .before .before .before .before .before .before .next .ensures) in
+    let z = ne-eqb _ 0 (c .before .before .before .before .before .before .before .before .before .before .before .before .before .before .before .before .before .before .before .before .before .if2 .left) in
+    let o = sym (c .before .before .before .before .before .before .before .before .before .before .before .before .before .before .before .before .before .before .before .opens .ensures) ∙ c .before .before .before .before .before .before .before .before .before .before .before .before .before .before .before .before .before .before .if3 .left in
+    let n = other-fits (i .0) h t z o (omega (arith, i .1, c .before .before .before .before .before .before .before .before .before .before .before .before .before .before .before .before .before .if7 .left)) in
+    let e = ends-not (c .before .before .before .before .before .before .before .before .before .before .before .before .before .before .before .before .before .before .before .before .before .before .before .before .before .before .before .before .before .before .before .before .before .before .before .before .before .before .before .before .before .before .before .args .to-format) _ o in
+    let r = other-on (i .0) h t z n (c .before .before .before .before .before .before .before .before .before .before .before .before .before .before .before .before .before .before .before .before .pack .result) (c .before .before .before .before .before .before .before .before .before .before .before .before .before .before .before .before .before .before .before .before .pack .ensures) (c .before .before .before .before .before .before .before .before .before .before .before .before .before .before .put3 .ensures) _ o e (c .before .before .before .before .before .before .before .past-other .ensures) (other-top (i .0) h t o (sym (c .before .before .before .before .before .before .before .before .before .closes .ensures) ∙ c .before .before .before .before .before .before .before .before .if8 .left) (c .before .before .before .before .before .before .before .past-other .ensures)) in
+    as-long r .stack .words
 
 returns-6 : tie.Need-returns-6 Inv-loop μ-loop
-returns-6 c = end-stop (c .before .before .loop .inv .0) _ refl (c .if1 .left)
+returns-6 c =
+    let i = c .before .before .before .before .before .before .before .before .before .before .before .before .before .before .before .before .before .before .before .before .before .before .before .before .before .before .before .before .before .loop .inv in
+    let h = c .before .before .before .before .before .before .before .before .before .before .before .before .before .before .before .before .before .before .before .before .before .before .before .before .before .before .before .if1 .taken in
+    let t = taken (i .0) h _ _ (c .before .before .before .before .before .before .before .before .before .before .before .before .before .before .before .before .before .before .before .before .before .before .before .answer .given .1) (c .before .before .before .before .before .before .before .before .before .before .before .before .before .before .before .before .before .before .before .before .before .before .before .before .before .next .ensures) in
+    let z = ne-eqb _ 0 (c .before .before .before .before .before .before .before .before .before .before .before .before .before .before .before .before .before .before .before .before .before .if2 .left) in
+    let o = sym (c .before .before .before .before .before .before .before .before .before .before .before .before .before .before .before .before .before .before .before .opens .ensures) ∙ c .before .before .before .before .before .before .before .before .before .before .before .before .before .before .before .before .before .before .if3 .left in
+    let n = other-fits (i .0) h t z o (omega (arith, i .1, c .before .before .before .before .before .before .before .before .before .before .before .before .before .before .before .before .before .if7 .left)) in
+    let e = ends-not (c .before .before .before .before .before .before .before .before .before .before .before .before .before .before .before .before .before .before .before .before .before .before .before .before .before .before .before .before .before .before .before .before .before .before .before .before .before .before .before .before .before .before .before .args .to-format) _ o in
+    let r = other-on (i .0) h t z n (c .before .before .before .before .before .before .before .before .before .before .before .before .before .before .before .before .before .before .before .before .pack .result) (c .before .before .before .before .before .before .before .before .before .before .before .before .before .before .before .before .before .before .before .before .pack .ensures) (c .before .before .before .before .before .before .before .before .before .before .before .before .before .before .put3 .ensures) _ o e (c .before .before .before .before .before .before .before .past-other .ensures) (other-top (i .0) h t o (sym (c .before .before .before .before .before .before .before .before .before .closes .ensures) ∙ c .before .before .before .before .before .before .before .before .if8 .left) (c .before .before .before .before .before .before .before .past-other .ensures)) in
+    let a = ends-at (i .0) h t (c .before .before .before .before .before .before .before .past-other .ensures) in
+    let x = blank-behind r a (c .before .before .before .before .before .before .before .before .before .before .before .before .before .before .before .before .before .before .before .before .before .before .before .before .before .before .before .before .before .loop .mode) (i .5) (c .before .before .before .before .space2 .given .1) (c .before .before .before .before .before .before .behind .ensures) in
+    rw (c .no-room4 .ensures) (ahead-unlisted r a x refl blank-opens (omega (arith, i .1, c .before .if9 .taken)))
+
+put-requires-4 : tie.Need-put-requires-4 Inv-loop μ-loop
+put-requires-4 c κs = search needs
+
+past-other-requires-2 : tie.Need-past-other-requires-2 Inv-loop μ-loop
+past-other-requires-2 c κs =
+    let i = c .before .before .before .before .before .before .before .before .before .before .before .before .before .before .before .before .before .before .before .before .before .before .before .before .before .before .before .before .before .before .before .before .before .before .before .loop .inv in
+    let h = c .before .before .before .before .before .before .before .before .before .before .before .before .before .before .before .before .before .before .before .before .before .before .before .before .before .before .before .before .before .before .before .before .before .if1 .taken in
+    let t = taken (i .0) h _ _ (c .before .before .before .before .before .before .before .before .before .before .before .before .before .before .before .before .before .before .before .before .before .before .before .before .before .before .before .before .before .answer .given .1) (c .before .before .before .before .before .before .before .before .before .before .before .before .before .before .before .before .before .before .before .before .before .before .before .before .before .before .before .before .before .before .before .next .ensures) in
+    let z = ne-eqb _ 0 (c .before .before .before .before .before .before .before .before .before .before .before .before .before .before .before .before .before .before .before .before .before .before .before .before .before .before .before .if2 .left) in
+    let o = sym (c .before .before .before .before .before .before .before .before .before .before .before .before .before .before .before .before .before .before .before .before .before .before .before .before .before .opens .ensures) ∙ c .before .before .before .before .before .before .before .before .before .before .before .before .before .before .before .before .before .before .before .before .before .before .before .before .if3 .left in
+    let n = other-fits (i .0) h t z o (omega (arith, i .1, c .before .before .before .before .before .before .before .before .before .before .before .before .before .before .before .before .before .before .before .before .before .before .before .if7 .left)) in
+    let e = ends-not (c .before .before .before .before .before .before .before .before .before .before .before .before .before .before .before .before .before .before .before .before .before .before .before .before .before .before .before .before .before .before .before .before .before .before .before .before .before .before .before .before .before .before .before .before .before .before .before .before .before .args .to-format) _ o in
+    let r = other-on (i .0) h t z n (c .before .before .before .before .before .before .before .before .before .before .before .before .before .before .before .before .before .before .before .before .before .before .before .before .before .before .pack .result) (c .before .before .before .before .before .before .before .before .before .before .before .before .before .before .before .before .before .before .before .before .before .before .before .before .before .before .pack .ensures) (c .before .before .before .before .before .before .before .before .before .before .before .before .before .before .before .before .before .before .before .before .put3 .ensures) _ o e (c .before .before .before .before .before .before .before .before .before .before .before .before .before .past-other .ensures) (other-top (i .0) h t o (sym (c .before .before .before .before .before .before .before .before .before .before .before .before .before .before .before .closes .ensures) ∙ c .before .before .before .before .before .before .before .before .before .before .before .before .before .before .if8 .left) (c .before .before .before .before .before .before .before .before .before .before .before .before .before .past-other .ensures)) in
+    let a = ends-at (i .0) h t (c .before .before .before .before .before .before .before .before .before .before .before .before .before .past-other .ensures) in
+    let x = blank-behind r a (c .before .before .before .before .before .before .before .before .before .before .before .before .before .before .before .before .before .before .before .before .before .before .before .before .before .before .before .before .before .before .before .before .before .before .before .loop .mode) (i .5) (c .before .before .before .before .before .before .before .before .before .before .space2 .given .1) (c .before .before .before .before .before .before .before .before .before .before .before .before .behind .ensures) in
+    let b = ahead-before r a x in
+    let y = ahead-taken r a x in
+    (can-advance r b y (i .4), refl, blank-opens, blank-closes)
+
+loop-less-6 : tie.Need-loop-less-6 Inv-loop μ-loop
+loop-less-6 c =
+    let i = c .before .before .before .before .before .before .before .before .before .before .before .before .before .before .before .before .before .before .before .before .before .before .before .before .before .before .before .before .before .before .before .before .before .before .before .before .loop .inv in
+    let h = c .before .before .before .before .before .before .before .before .before .before .before .before .before .before .before .before .before .before .before .before .before .before .before .before .before .before .before .before .before .before .before .before .before .before .if1 .taken in
+    let t = taken (i .0) h _ _ (c .before .before .before .before .before .before .before .before .before .before .before .before .before .before .before .before .before .before .before .before .before .before .before .before .before .before .before .before .before .before .answer .given .1) (c .before .before .before .before .before .before .before .before .before .before .before .before .before .before .before .before .before .before .before .before .before .before .before .before .before .before .before .before .before .before .before .before .next .ensures) in
+    let z = ne-eqb _ 0 (c .before .before .before .before .before .before .before .before .before .before .before .before .before .before .before .before .before .before .before .before .before .before .before .before .before .before .before .before .if2 .left) in
+    let o = sym (c .before .before .before .before .before .before .before .before .before .before .before .before .before .before .before .before .before .before .before .before .before .before .before .before .before .before .opens .ensures) ∙ c .before .before .before .before .before .before .before .before .before .before .before .before .before .before .before .before .before .before .before .before .before .before .before .before .before .if3 .left in
+    let n = other-fits (i .0) h t z o (omega (arith, i .1, c .before .before .before .before .before .before .before .before .before .before .before .before .before .before .before .before .before .before .before .before .before .before .before .before .if7 .left)) in
+    let e = ends-not (c .before .before .before .before .before .before .before .before .before .before .before .before .before .before .before .before .before .before .before .before .before .before .before .before .before .before .before .before .before .before .before .before .before .before .before .before .before .before .before .before .before .before .before .before .before .before .before .before .before .before .args .to-format) _ o in
+    let r = other-on (i .0) h t z n (c .before .before .before .before .before .before .before .before .before .before .before .before .before .before .before .before .before .before .before .before .before .before .before .before .before .before .before .pack .result) (c .before .before .before .before .before .before .before .before .before .before .before .before .before .before .before .before .before .before .before .before .before .before .before .before .before .before .before .pack .ensures) (c .before .before .before .before .before .before .before .before .before .before .before .before .before .before .before .before .before .before .before .before .before .put3 .ensures) _ o e (c .before .before .before .before .before .before .before .before .before .before .before .before .before .before .past-other .ensures) (other-top (i .0) h t o (sym (c .before .before .before .before .before .before .before .before .before .before .before .before .before .before .before .before .closes .ensures) ∙ c .before .before .before .before .before .before .before .before .before .before .before .before .before .before .before .if8 .left) (c .before .before .before .before .before .before .before .before .before .before .before .before .before .before .past-other .ensures)) in
+    let a = ends-at (i .0) h t (c .before .before .before .before .before .before .before .before .before .before .before .before .before .before .past-other .ensures) in
+    let x = blank-behind r a (c .before .before .before .before .before .before .before .before .before .before .before .before .before .before .before .before .before .before .before .before .before .before .before .before .before .before .before .before .before .before .before .before .before .before .before .before .loop .mode) (i .5) (c .before .before .before .before .before .before .before .before .before .before .before .space2 .given .1) (c .before .before .before .before .before .before .before .before .before .before .before .before .before .behind .ensures) in
+    let b = ahead-before r a x in
+    let y = ahead-taken r a x in
+    omega (arith, runs-less (i .0) h t _ (c .before .before .before .before .before .before .before .before .before .before .before .before .before .before .past-other .ensures), runs-less r b y _ (c .past-other2 .ensures))
+
+loop-again-6 : tie.Need-loop-again-6 Inv-loop μ-loop
+unfolding codeOf
+loop-again-6 c =
+    let i = c .before .before .before .before .before .before .before .before .before .before .before .before .before .before .before .before .before .before .before .before .before .before .before .before .before .before .before .before .before .before .before .before .before .before .before .before .loop .inv in
+    let h = c .before .before .before .before .before .before .before .before .before .before .before .before .before .before .before .before .before .before .before .before .before .before .before .before .before .before .before .before .before .before .before .before .before .before .if1 .taken in
+    let t = taken (i .0) h _ _ (c .before .before .before .before .before .before .before .before .before .before .before .before .before .before .before .before .before .before .before .before .before .before .before .before .before .before .before .before .before .before .answer .given .1) (c .before .before .before .before .before .before .before .before .before .before .before .before .before .before .before .before .before .before .before .before .before .before .before .before .before .before .before .before .before .before .before .before .next .ensures) in
+    let z = ne-eqb _ 0 (c .before .before .before .before .before .before .before .before .before .before .before .before .before .before .before .before .before .before .before .before .before .before .before .before .before .before .before .before .if2 .left) in
+    let o = sym (c .before .before .before .before .before .before .before .before .before .before .before .before .before .before .before .before .before .before .before .before .before .before .before .before .before .before .opens .ensures) ∙ c .before .before .before .before .before .before .before .before .before .before .before .before .before .before .before .before .before .before .before .before .before .before .before .before .before .if3 .left in
+    let n = other-fits (i .0) h t z o (omega (arith, i .1, c .before .before .before .before .before .before .before .before .before .before .before .before .before .before .before .before .before .before .before .before .before .before .before .before .if7 .left)) in
+    let e = ends-not (c .before .before .before .before .before .before .before .before .before .before .before .before .before .before .before .before .before .before .before .before .before .before .before .before .before .before .before .before .before .before .before .before .before .before .before .before .before .before .before .before .before .before .before .before .before .before .before .before .before .before .args .to-format) _ o in
+    let r = other-on (i .0) h t z n (c .before .before .before .before .before .before .before .before .before .before .before .before .before .before .before .before .before .before .before .before .before .before .before .before .before .before .before .pack .result) (c .before .before .before .before .before .before .before .before .before .before .before .before .before .before .before .before .before .before .before .before .before .before .before .before .before .before .before .pack .ensures) (c .before .before .before .before .before .before .before .before .before .before .before .before .before .before .before .before .before .before .before .before .before .put3 .ensures) _ o e (c .before .before .before .before .before .before .before .before .before .before .before .before .before .before .past-other .ensures) (other-top (i .0) h t o (sym (c .before .before .before .before .before .before .before .before .before .before .before .before .before .before .before .before .closes .ensures) ∙ c .before .before .before .before .before .before .before .before .before .before .before .before .before .before .before .if8 .left) (c .before .before .before .before .before .before .before .before .before .before .before .before .before .before .past-other .ensures)) in
+    let a = ends-at (i .0) h t (c .before .before .before .before .before .before .before .before .before .before .before .before .before .before .past-other .ensures) in
+    let x = blank-behind r a (c .before .before .before .before .before .before .before .before .before .before .before .before .before .before .before .before .before .before .before .before .before .before .before .before .before .before .before .before .before .before .before .before .before .before .before .before .loop .mode) (i .5) (c .before .before .before .before .before .before .before .before .before .before .before .space2 .given .1) (c .before .before .before .before .before .before .before .before .before .before .before .before .before .behind .ensures) in
+    let b = ahead-before r a x in
+    let y = ahead-taken r a x in
+    let f = other-fits r b y refl blank-opens (omega (arith, i .1, c .before .before .before .before .before .before .before .before .if9 .left)) in
+    (other-on r b y refl f (c .before .before .before .before .before .before .before .before .before .pack2 .result) (ahead-words r a x (c .before .before .before .before .before .before .before .before .before .pack2 .result) (c .before .before .before .before .before .before .before .before .before .pack2 .ensures)) (c .before .before .before .before .before .put4 .ensures) _ blank-opens (ends-not (c .before .before .before .before .before .before .before .before .before .before .before .before .before .before .before .before .before .before .before .before .before .before .before .before .before .before .before .before .before .before .before .before .before .before .before .before .before .before .before .before .before .before .before .before .before .before .before .before .before .before .args .to-format) _ blank-opens) (c .past-other2 .ensures) (other-top r b y blank-opens blank-closes (c .past-other2 .ensures)), i .1, i .2, i .3, i .4, i .5)
+
+same-length-25 : tie.Need-same-length-25 Inv-loop μ-loop
+same-length-25 c = as-long (c .before .before .loop .inv .0) .list .kinds
+
+same-length-26 : tie.Need-same-length-26 Inv-loop μ-loop
+same-length-26 c = as-long (c .before .before .loop .inv .0) .list .words
+
+same-length-27 : tie.Need-same-length-27 Inv-loop μ-loop
+same-length-27 c = as-long (c .before .before .loop .inv .0) .stack .kinds
+
+same-length-28 : tie.Need-same-length-28 Inv-loop μ-loop
+same-length-28 c = as-long (c .before .before .loop .inv .0) .stack .words
+
+returns-7 : tie.Need-returns-7 Inv-loop μ-loop
+returns-7 c = end-stop (c .before .before .loop .inv .0) _ refl (c .if1 .left)
 
 pub run-spec : {M : Type 1} → statement M
 run-spec =
@@ -487,15 +664,30 @@ run-spec =
     loop-less-3
     loop-again-3
     past-other-requires
-    lone-space-requires
-    add-past-space
-    past-space-requires-2
+    behind-requires
+    enum-told-2
     loop-less-4
     loop-again-4
+    enum-known-space
+    past-space-requires-2
     loop-less-5
     loop-again-5
+    enum-known-space-2
+    add-pack-3
+    add-pack-4
+    pack-requires-2
+    no-room-requires-4
     same-length-21
     same-length-22
     same-length-23
     same-length-24
-    returns-6)
+    returns-6
+    put-requires-4
+    past-other-requires-2
+    loop-less-6
+    loop-again-6
+    same-length-25
+    same-length-26
+    same-length-27
+    same-length-28
+    returns-7)
