@@ -65,7 +65,7 @@ fn of_table<'a>(rows: &'a [Row], table: &str) -> Vec<&'a Row> {
     rows.iter().filter(|row| row.table == table).collect()
 }
 
-fn lexing(rows: &[Row]) {
+fn lexing(rows: &[Row], table: &str, title: &str) {
     let columns = [
         name("text"),
         ratio("ratio", USUAL, "rust"),
@@ -77,9 +77,7 @@ fn lexing(rows: &[Row]) {
         speed("a copy, MB/s", USUAL, "copy"),
         lexemes("lexemes"),
     ];
-    let title =
-        "Lexing, `rcl_lex` beside `from_utf8` and `lex`. Texts of 4 MiB; the spaces are 1 MiB.";
-    print_table(title, &of_table(rows, "lexing"), &columns);
+    print_table(title, &of_table(rows, table), &columns);
 }
 
 fn check(rows: &[Row]) {
@@ -130,7 +128,16 @@ fn growth(rows: &[Row], table: &str, title: &str) {
 fn main() {
     let printed = std::io::read_to_string(std::io::stdin()).expect("The times are text.");
     let rows = times::read(&printed);
-    lexing(&rows);
+    lexing(
+        &rows,
+        "lexing",
+        "Lexing, `rcl_lex` beside `from_utf8` and `lex`. Texts of 4 MiB; the spaces are 1 MiB.",
+    );
+    lexing(
+        &rows,
+        "runs",
+        "The same, with a run of whitespace of so many bytes behind each lexeme. Texts of 4 MiB.",
+    );
     check(&rows);
     calls(
         &rows,

@@ -18,6 +18,7 @@ const ALL: [&str; 11] = [
     "varied notes",
     "varied triple-quoted strings",
 ];
+const RUNS: [&str; 5] = ["1 byte", "2 bytes", "8 bytes", "24 bytes", "80 bytes"];
 const CHECKED: [&str; 2] = ["move table", "mixed UTF-8 notes"];
 const VALUED: [&str; 6] = [
     "nested format strings",
@@ -35,6 +36,7 @@ const SIZES: [&str; 8] = [
 pub fn names(table: &str) -> &'static [&'static str] {
     match table {
         "lexing" | "tidy" => &ALL,
+        "runs" => &RUNS,
         "check" => &CHECKED,
         "values" => &VALUED,
         "walker" => &WALKED,
@@ -45,6 +47,7 @@ pub fn names(table: &str) -> &'static [&'static str] {
 
 pub fn text(table: &str, name: &str) -> Vec<u8> {
     match table {
+        "runs" => texts::runs(USUAL, length(name)),
         "growth, move table" => texts::move_table(bytes(name)),
         "growth, mixed notes" => texts::mixed_notes(bytes(name)),
         _ => named(name),
@@ -55,6 +58,11 @@ fn bytes(size: &str) -> usize {
     let (number, unit) = size.split_once(' ').expect("A size has a unit.");
     let number: usize = number.parse().expect("A size has a number.");
     number << if unit == "KiB" { 10 } else { 20 }
+}
+
+fn length(run: &str) -> usize {
+    let (number, _) = run.split_once(' ').expect("A run has a unit.");
+    number.parse().expect("A run has a number.")
 }
 
 fn named(name: &str) -> Vec<u8> {

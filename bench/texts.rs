@@ -41,6 +41,17 @@ pub fn indents(size: usize) -> Vec<u8> {
     })
 }
 
+/// A run of whitespace of so many bytes behind each lexeme: a space, or a line end and
+/// the indentation after it.
+pub fn runs(size: usize, length: usize) -> Vec<u8> {
+    let run = match length {
+        1 => " ".to_string(),
+        _ => format!("\n{}", " ".repeat(length - 1)),
+    };
+    let words = ["step", "x", ",", "=", "12", "field"];
+    lines(size, |n| format!("{}{run}", words[n % words.len()]))
+}
+
 pub fn strings(size: usize) -> Vec<u8> {
     let words = "scan from the left edge to the right edge, then down by one field; ".repeat(16);
     lines(size, |n| format!("note{n} = \"{words}\";\n"))

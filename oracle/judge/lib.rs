@@ -1,5 +1,5 @@
-//! The judge: RCL's published lexer, unchanged, and what document 01 says on
-//! top of it. The build puts the published files beside links to ours.
+//! The judge: RCL's published lexer, unchanged, and what documents 01 and 02 say
+//! on top of it. The build puts the published files beside links to ours.
 
 // The published files hold more than is asked of them here.
 #![allow(dead_code)]
@@ -22,6 +22,7 @@ pub mod respace;
 pub mod strings;
 pub mod tally;
 pub mod walker;
+pub mod whitespace;
 
 #[cfg(test)]
 mod marked;

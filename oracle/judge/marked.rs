@@ -14,6 +14,7 @@ use crate::strings::{Refused, Words, LONGEST, NOWHERE};
 use crate::tally::Tally;
 use crate::walker::told::Told;
 use crate::walker::{opened, walk, Given, Place, Stack, Stepped, Walked};
+use crate::whitespace::measured;
 
 const DOC: DocId = DocId(7);
 
@@ -324,4 +325,20 @@ fn told_what_a_walker_keeps() {
     wrong(0, 0, at(0, 0));
     wrong(1, 2, at(1, 1));
     wrong(1, 1, Words::new(DOC.0 + 1, 0, 0));
+}
+
+/// "The run's length, or one more where a byte follows it."
+#[test]
+fn runs_of_whitespace() {
+    let run = |text: &[u8], at| {
+        let run = measured(text, at);
+        (run.length, run.lines, run.looked)
+    };
+    assert_eq!(run(b"", 0), (0, 0, 0));
+    assert_eq!(run(b"x ", 0), (0, 0, 1));
+    assert_eq!(run(b" x", 0), (1, 0, 2));
+    assert_eq!(run(b"  ", 0), (2, 0, 2));
+    assert_eq!(run(b"x  ", 1), (2, 0, 2));
+    assert_eq!(run(b"\t\n\x0c\r\n \x0b ", 0), (6, 2, 7));
+    assert_eq!(run(b"  ", 3), (0, 0, 0));
 }

@@ -15,6 +15,7 @@ use judge::generate::Texts;
 use judge::reference::{trace, within, Answer, Listed, Trace};
 use judge::report::Damage;
 use judge::source::DocId;
+use judge::whitespace::measured;
 use strings::theorems::{self, verdict, written_span};
 use strings::Call;
 
@@ -131,6 +132,7 @@ use Rattle.rules.specs.Spans.{Span, span}
 use Rattle.rules.specs.Answers.{Verdict, refused, accepted}
 use Rattle.rules.specs.Lent.{Lexeme, lexeme}
 use Rattle.rules.specs.Lexing.{Lexed, lexing, listing}
+use Rattle.rules.specs.Measuring.{Measured, measured}
 use Rattle.cases.specs.Computes.{computes}
 
 abbrev lexed : Verdict → (lexemes steps kept dropped deepest : ℕ) → Lexed
@@ -138,6 +140,9 @@ lexed v a b c d e = record { verdict = v; lexemes = a; steps = b; kept = c; drop
 
 abbrev stop : (number : ℕ) → Span → Option Span → Verdict
 stop n s note = refused (record { number = n; at = s; note = note })
+
+abbrev run : (length lines looked : ℕ) → Measured
+run a b c = record { length = a; lines = b; looked = c }
 ";
 
 fn written_list(items: impl Iterator<Item = String>) -> String {
@@ -167,15 +172,27 @@ fn written_answer(answer: &Answer) -> String {
     )
 }
 
+/// The first run of whitespace, where there is one.
+fn written_run(text: &[u8]) -> String {
+    let at = text.iter().position(u8::is_ascii_whitespace).unwrap_or(0);
+    let run = measured(text, at);
+    let rest = written_bytes(&text[at..]);
+    format!(
+        "measured {rest} ≡ run {} {} {}",
+        run.length, run.lines, run.looked
+    )
+}
+
 fn written_case(name: &str, case: &Case) -> String {
     let (doc, list, stack) = (case.doc.0, case.list_places, case.stack_places);
     let call = format!("{doc} {list} {stack} {}", written_bytes(&case.text));
     let answer = written_answer(&case.answer);
     let lexemes = written_lexemes(&case.answer.listed);
+    let run = written_run(&case.text);
     format!(
-        "\n{name} : (lexing {call} ≡ {answer}) × (listing {call} ≡ {lexemes})\n\
+        "\n{name} : (lexing {call} ≡ {answer}) × (listing {call} ≡ {lexemes}) × ({run})\n\
         unfolding computes\n\
-        {name} = (refl, refl)\n"
+        {name} = (refl, refl, refl)\n"
     )
 }
 

@@ -16,6 +16,7 @@ use judge::strings::hand::handed;
 use judge::strings::value::valued;
 use judge::strings::{entries, is_quote_open, Entry};
 use judge::tally::Tally;
+use judge::whitespace::measured;
 use strings::lent::MARK;
 use strings::tidy::{written, written_lent, written_lexed};
 use strings::{hexadecimal, written_value, Line};
@@ -36,6 +37,7 @@ fn main() {
     lines.extend(document_lines());
     lines.extend(string_lines());
     lines.extend(walk_lines());
+    lines.extend(whitespace_lines());
     let lines = without_repeats(lines);
     write_lines(calls, lines.iter().map(|line| &line.0));
     write_lines(answers, lines.iter().map(|line| &line.1));
@@ -490,4 +492,54 @@ const SAMPLED_WALKS: usize = 60;
 fn walk_lines() -> Vec<Line> {
     let calls = walk::calls(SEED, SAMPLED_WALKS);
     calls.iter().map(walk::Walk::line).collect()
+}
+
+// Runs of whitespace, measured: document 02, Point 2.
+
+const WHITESPACE: &str = "# Document 02, Point 2: a run of whitespace, measured.";
+
+/// What begins or ends a run: the five bytes of whitespace, and bytes that are none.
+const AROUND: [u8; 9] = [b' ', b'\t', b'\n', 0x0b, 0x0c, b'\r', b'x', 0, 0xa0];
+
+fn whitespace_lines() -> Vec<Line> {
+    let mut lines = vec![(WHITESPACE.to_string(), WHITESPACE.to_string())];
+    for text in whitespace_texts() {
+        lines.push(whitespace_line(&text, 0));
+    }
+    let text = b"x \n\t \r\x0c\n  y ";
+    lines.extend((0..=text.len() + 1).map(|at| whitespace_line(text, at)));
+    lines.push(whitespace_line(text, usize::MAX));
+    lines
+}
+
+/// The code measures twice: as a step does, and as it does behind a lexeme.
+fn whitespace_line(text: &[u8], at: usize) -> Line {
+    let run = measured(text, at);
+    let answer = format!("{} {} {}", run.length, run.lines, run.looked);
+    (
+        format!("whitespace {at} {}", hexadecimal(text)),
+        format!("{answer} {answer}"),
+    )
+}
+
+/// All short texts of these bytes, and long runs up to each of them, since spaces
+/// are looked at eight to a turn.
+fn whitespace_texts() -> Vec<Vec<u8>> {
+    let mut texts = vec![vec![]];
+    for a in AROUND {
+        texts.push(vec![a]);
+        for b in AROUND {
+            texts.push(vec![a, b]);
+            texts.extend(AROUND.map(|c| vec![a, b, c]));
+        }
+    }
+    for count in 3..=26 {
+        let spaces = vec![b' '; count];
+        texts.push(spaces.clone());
+        for byte in AROUND {
+            texts.push([&spaces[..], &[byte]].concat());
+            texts.push([&b"\n"[..], &spaces, &[byte], b" \n"].concat());
+        }
+    }
+    texts
 }
