@@ -61,13 +61,15 @@ def line_turned(line, mark):
         return line
     cut = re.search(mark, line)
     code, comment = (line[: cut.start()], line[cut.start() :]) if cut else (line, "")
-    code = "".join(p if p.startswith('"') else turned(p) for p in re.split(r'("[^"]*")', code))
+    code = "".join(p if p.startswith('"') else turned(p) for p in re.split(r'("(?:[^"\\]|\\.)*")', code))
     return code + re.sub(r"`[^`]*`", lambda m: turned(m.group(0)), comment)
 
 
 def main():
     for path, name in LEMMAS:
         text = read(path)
+        if not any(snake(w) != w for w in WORD.findall(re.sub(r"--.*|\"[^\"]*\"|^use (?!Rattle).*", "", text, flags=re.M))):
+            continue  # turned by an earlier run
         changed = re.sub(rf"(?<![\w'.-]){name}(?![\w'-])", name + "_lem", text)
         if changed == text:
             print(f"respell: {path} has no {name}", file=sys.stderr)

@@ -272,4 +272,4 @@ outside-comment innermost s u = rw (begins-differs "/" "#" "/" "!" s u refl, u)
 pub outside-whitespace : (innermost : ℕ) (s : List ℕ) → starts is_whitespace s ≡ true → outside innermost s ≡ whitespace s
 unfolding outside is_whitespace
 outside-whitespace innermost s u =
-    rw (begins-another is_whitespace "#" "!" s u refl, begins-another is_whitespace "/" "/" s u refl, begins-another is_whitespace "f" "\"\"\"" s u refl, begins-another isWhitespace "\"" "\"\"" s u refl, begins-another is_whitespace "f" "\"" s u refl, begins-another isWhitespace "\"" "" s u refl, begins-another is_whitespace "}" "" s u refl, starts-another is_digit s digit-fails u, starts-another is_letter s letter-fails u, u)
+    rw (begins-another is_whitespace "#" "!" s u refl, begins-another is_whitespace "/" "/" s u refl, begins-another is_whitespace "f" "\"\"\"" s u refl, begins-another is_whitespace "\"" "\"\"" s u refl, begins-another is_whitespace "f" "\"" s u refl, begins-another is_whitespace "\"" "" s u refl, begins-another is_whitespace "}" "" s u refl, starts-another is_digit s digit-fails u, starts-another is_letter s letter-fails u, u)

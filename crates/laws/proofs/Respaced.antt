@@ -205,7 +205,7 @@ first-quotes openers k (b ∷ []) ps q t a = decide (is "\"" b)
     let at-quote : step (innermost openers) (34 ∷ joined ps) ≡ found k 1 = rw (is_code "\"" b e) at a.0 in
     let inner : k ≡ StringInner = quote-in-triple (innermost openers) (joined ps) k t (step-inside (innermost openers) (34 ∷ joined ps) (found k 1) q at-quote) in
     let more : Accepted (codes_after openers StringInner) ps = rw inner at a.2 in
-    let same_start : begins "\"" (joined (respacedAfter StringInner ps)) ≡ begins "\"" (joined ps) =
+    let same_start : begins "\"" (joined (respaced_after StringInner ps)) ≡ begins "\"" (joined ps) =
     quote-starts (joined (respaced_after StringInner ps)) ∙ starts-in-string (is "\"") openers StringInner ps refl q (rw (inner-open openers) at more) ∙ sym (quote-starts (joined ps)) in
     rw (inner, same_start) refl)
     (λ e. rw e refl)
@@ -238,7 +238,7 @@ first-closes openers k (b ∷ w) ps ne q t a = decide (is "\"" b)
     rw e (go w (omega (arith, closes.1)) (no-quote (joined (respaced_after k ps)) (end-or-whitespace (codes_after openers k) k ps blank closed (m.0 ∙ closed) a.2))))
     (λ e. rw e refl)
   where
-    go : (w : List ℕ) → length w ≡ 0 → begins "\"" (joined (respacedAfter k ps)) ≡ false → begins "\"" (w ++ joined (respaced_after k ps)) ≡ false
+    go : (w : List ℕ) → length w ≡ 0 → begins "\"" (joined (respaced_after k ps)) ≡ false → begins "\"" (w ++ joined (respaced_after k ps)) ≡ false
     go [] z n = n
     go (c ∷ w) z n = absurd (omega arith)
 

@@ -69,7 +69,7 @@ step-inside k byte triple s e z t = decide (is_quote_open k)
     (λ i. absurd (z (e ∙ rw i)))
 
 -- the byte of a string's opener, plain and format
-pub plain-stop : (style : QuoteStyle) → code "\"" ≡ cond (isQuoteOpen (quoteCode None style)) (stopOf (quoteCode None style)) 0
+pub plain-stop : (style : QuoteStyle) → code "\"" ≡ cond (is_quote_open (quote_code None style)) (stop_of (quote_code None style)) 0
 plain-stop Double = refl
 plain-stop Triple = refl
 

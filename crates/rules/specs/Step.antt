@@ -173,7 +173,7 @@ single_escape s =
 
 -- bytes that go on an inner part: "to before `\`, `"`, LF (and `{` in a format string)"
 unfoldable pub is_inner : (quote : ℕ) → ℕ → Bool
-is_inner quote b = not (is "\\" b || is "\"" b || is "\n" b || isFormat quote && is "{" b)
+is_inner quote b = not (is "\\" b || is "\"" b || is "\n" b || is_format quote && is "{" b)
 
 -- the closing quote stands here
 unfoldable pub closes_quote : (quote : ℕ) → List ℕ → Bool

@@ -87,7 +87,7 @@ delim-digits w e =
 -- a capital after the backslash
 pub single-capital : (s : Span) (b : ℕ) → is_capital b ≡ true → single_scalar s b ≡ refuse CapitalEscape s
 unfolding single_scalar is_capital
-single-capital s b e = rw (is-another is_capital "\"" b e refl, is-another isCapital "\\" b e refl, is-another isCapital "/" b e refl, is-another isCapital "{" b e refl, is-another isCapital "}" b e refl, is-another isCapital "b" b e refl, is-another isCapital "f" b e refl, is-another isCapital "n" b e refl, is-another isCapital "r" b e refl, is-another isCapital "t" b e refl, e) refl
+single-capital s b e = rw (is-another is_capital "\"" b e refl, is-another is_capital "\\" b e refl, is-another is_capital "/" b e refl, is-another is_capital "{" b e refl, is-another is_capital "}" b e refl, is-another is_capital "b" b e refl, is-another is_capital "f" b e refl, is-another is_capital "n" b e refl, is-another is_capital "r" b e refl, is-another is_capital "t" b e refl, e) refl
 
 -- a byte after the backslash that is neither a capital nor one of the ten
 pub single-unknown : (s : Span) (b : ℕ) → (b ≡ code "\"" → ⊥) → (b ≡ code "\\" → ⊥) → (b ≡ code "/" → ⊥) → (b ≡ code "{" → ⊥) → (b ≡ code "}" → ⊥) → (b ≡ code "b" → ⊥) → (b ≡ code "f" → ⊥) → (b ≡ code "n" → ⊥) → (b ≡ code "r" → ⊥) → (b ≡ code "t" → ⊥) → is_capital b ≡ false → single_scalar s b ≡ refuse UnknownEscape s

@@ -27,7 +27,7 @@ quotes-at t at =
 
 -- a letter: an `f` with a quote behind it opens a format string
 pub letter_at : (is_any : ℕ → Bool) (first : ℕ) (t s : List ℕ) (at : ℕ) →
-    lettered_by is_any first (drop (at + 1) t) s ≡ cond (is "f" first && is "\"" (get_or t (at + 1) 0)) (cond (begins "\"\"" (drop (at + 2) t)) (found FormatTriple 4) (found FormatDouble 2)) (identifierBy isAny s)
+    lettered_by is_any first (drop (at + 1) t) s ≡ cond (is "f" first && is "\"" (get_or t (at + 1) 0)) (cond (begins "\"\"" (drop (at + 2) t)) (found FormatTriple 4) (found FormatDouble 2)) (identifier_by is_any s)
 unfolding lettered_by
 letter_at is_any first t s at =
     let two : at + 1 + 1 ≡ at + 2 = omega arith in

@@ -116,7 +116,7 @@ module _ (t : List ℕ) (at b : ℕ) (s : List ℕ) (e : s ≡ b ∷ drop (at + 
         rw (first-is "\\", here)
 
     -- at a quote, by the code's test for one that closes
-    pub at-quote : b ≡ code "\"" → insideBy end triple s ≡ cond (not triple || is "\"" (get_or t (at + 1) 0) && is "\"" (get_or t (at + 2) 0)) (found QuoteClose (cond triple 3 1)) (innerBy end s)
+    pub at-quote : b ≡ code "\"" → inside_by end triple s ≡ cond (not triple || is "\"" (get_or t (at + 1) 0) && is "\"" (get_or t (at + 2) 0)) (found QuoteClose (cond triple 3 1)) (inner_by end s)
     unfolding inside_by
     at-quote q =
         let other : is "\\" b ≡ false = rw q refl in
@@ -124,7 +124,7 @@ module _ (t : List ℕ) (at b : ℕ) (s : List ℕ) (e : s ≡ b ∷ drop (at + 
         rw (first-is "\\", first-is "\"", three-quotes q, other, here)
 
     -- at any other byte
-    pub at_other : (b ≡ backslash → ⊥) → (b ≡ code "\"" → ⊥) → insideBy end triple s ≡ cond (eqb b end) (found HoleOpen 1) (innerBy end s)
+    pub at_other : (b ≡ backslash → ⊥) → (b ≡ code "\"" → ⊥) → inside_by end triple s ≡ cond (eqb b end) (found HoleOpen 1) (inner_by end s)
     unfolding inside_by
     at_other q r = rw (first-is "\\", first-is "\"", ne_eqb b (code "\\") q, ne_eqb b (code "\"") r, starts_first (λ x. eqb x end))
 
@@ -169,14 +169,14 @@ cond_same : (t x : Bool) → cond t x x ≡ x
 cond_same true x = refl
 cond_same false x = refl
 
-in-quote : (quote : ℕ) (s : List ℕ) → begins "\"" s ≡ true → inside quote s ≡ cond (isTriple quote) (cond (begins "\"\"\"" s) (found QuoteClose 3) (found StringInner (suc (run (is_inner quote) (drop 1 s))))) (found QuoteClose 1)
+in-quote : (quote : ℕ) (s : List ℕ) → begins "\"" s ≡ true → inside quote s ≡ cond (is_triple quote) (cond (begins "\"\"\"" s) (found QuoteClose 3) (found StringInner (suc (run (is_inner quote) (drop 1 s))))) (found QuoteClose 1)
 unfolding inside closes_quote
 in-quote quote [] e = absurd (false≢true e)
 in-quote quote (b ∷ s) e =
     rw (is_code "\"" b (rw and-true at e))
     (decide (is_triple quote) (λ t. rw (t, and-false)) (λ t. rw t))
 
-in-other : (quote : ℕ) (s : List ℕ) → begins "\\" s ≡ false → begins "\"" s ≡ false → inside quote s ≡ cond (isFormat quote && begins "{" s) (found HoleOpen 1) (found StringInner (suc (run (is_inner quote) (drop 1 s))))
+in-other : (quote : ℕ) (s : List ℕ) → begins "\\" s ≡ false → begins "\"" s ≡ false → inside quote s ≡ cond (is_format quote && begins "{" s) (found HoleOpen 1) (found StringInner (suc (run (is_inner quote) (drop 1 s))))
 unfolding inside closes_quote
 in-other quote [] e f = rw cond_same
 in-other quote (b ∷ s) e f =
@@ -185,7 +185,7 @@ in-other quote (b ∷ s) e f =
     rw (t, u, cond_same)
 
 -- the byte of a text that begins with no quote is the stop where it opens a hole
-hole-same : (quote : ℕ) (s : List ℕ) → begins "\"" s ≡ false → starts (λ b. eqb b (stopOf quote)) s ≡ (isFormat quote && begins "{" s)
+hole-same : (quote : ℕ) (s : List ℕ) → begins "\"" s ≡ false → starts (λ b. eqb b (stop_of quote)) s ≡ (is_format quote && begins "{" s)
 hole-same quote [] e = rw and-false refl
 hole-same quote (b ∷ s) e =
     let u : is "\"" b ≡ false = rw and-true at e in
