@@ -1,4 +1,6 @@
 // Small total functions that several crates need.
+#![tactic(auto)]
+
 ghost use Rattle.std.specs.Prelude.{◌≡◌, cond, min, max, get_or};
 
 pub fn least(a: usize, b: usize) -> usize

@@ -3,6 +3,8 @@
 // Licensed under the Apache License, Version 2.0 (the "License"): see NOTICE.
 // From src/cst.rs of RCL, changed: of the syntax tree only the parts of a string, a hole without its expression; listed in lent arrays.
 
+#![tactic(auto)]
+
 // The parts of a string.
 mod search;
 

@@ -1,4 +1,6 @@
 // The gap rule: what stands between two lexemes that are written one after the other; and writing it.
+#![tactic(auto)]
+
 ghost use Rattle.std.specs.Prelude.{◌≡◌, ◌++◌, length};
 ghost use Rattle.rules.specs.Tidy.{gap as gap_rule};
 ghost use Rattle.output.specs.Places.{Put};

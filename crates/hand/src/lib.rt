@@ -1,4 +1,6 @@
 // Handing back a value: the part of the text, or of the output, that the value call answered. Both are lent only to read.
+#![tactic(auto)]
+
 ghost use Rattle.std.specs.Prelude.{◌≡◌};
 ghost use Rattle.rules.specs.Value.{ChecksPart, HandsBack};
 ghost use Rattle.source.specs.Meaning.{verdict_meant};

@@ -3,6 +3,8 @@
 // Licensed under the Apache License, Version 2.0 (the "License"): see NOTICE.
 // From src/lexer.rs of RCL, changed: lexemes and openers go to lent arrays, and an error is a numbered refusal.
 
+#![tactic(auto)]
+
 // The lexer splits a text into a sequence of tokens. One step (`next`), which the sub-lexers make up, and `lex` above it.
 mod lent;
 mod lexing;

@@ -1,4 +1,6 @@
 // A list of lexemes or of parts in two lent arrays: a kind code for each, and the two words of its span. Its places are the smaller of the first length and half the second.
+#![tactic(auto)]
+
 ghost use Rattle.std.specs.Prelude.{◌≡◌, length, take, drop};
 ghost use Rattle.rules.specs.Lent.{places_of, lexemes_in, arrays};
 ghost use Rattle.list.specs.Entries.{entry_meant, first_of, put_in};

@@ -1,4 +1,6 @@
 // Writing to a lent output. "An output ends at 2^48 − 1 bytes at most"; "a piece is written whole or not".
+#![tactic(auto)]
+
 ghost use Rattle.std.specs.Prelude.{◌≡◌, ◌++◌, ◌+◌, ◌≤◌, leb, length};
 ghost use Rattle.rules.specs.Output.{end_of, overwritten};
 ghost use Rattle.output.specs.Places.{Put};

@@ -1,4 +1,6 @@
 // The exported interface, for C and Rust. include/rcl.h documents each call; `words` has the structs that they answer.
+#![tactic(auto)]
+
 mod handing;
 mod lexing;
 mod strings;

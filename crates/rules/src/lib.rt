@@ -1,4 +1,6 @@
 // The rules of document 01 as definitions (specs/), the laws about them that every crate above needs (proofs/), and the rules' numbers by name. No code.
+#![tactic(auto)]
+
 pub mod class;
 pub mod kind;
 pub mod refusal;

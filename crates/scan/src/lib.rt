@@ -3,6 +3,8 @@
 // Licensed under the Apache License, Version 2.0 (the "License"): see NOTICE.
 // From src/lexer.rs of RCL, changed: of `take_while` and the tests that it is given; a function for each run, long ones in blocks.
 
+#![tactic(auto)]
+
 // Runs of bytes: where the bytes that pass a test end. A position past the text's end is its own end.
 ghost use Rattle.std.specs.Prelude.{◌≡◌, cond, not, ◌+◌, ◌-◌, ◌≤◌, min, length, drop};
 ghost use Rattle.rules.specs.Text.{is, run};

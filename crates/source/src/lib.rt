@@ -3,6 +3,8 @@
 // Licensed under the Apache License, Version 2.0 (the "License"): see NOTICE.
 // From src/source.rs of RCL, changed: a span is passed by value, and what the Rust asserts is refused.
 
+#![tactic(auto)]
+
 // Types for dealing with input source code.
 ghost use Rattle.std.specs.Prelude.{◌≡◌, ◌^◌, ◌<◌, not, ◌&&◌, eqb};
 ghost use Rattle.rules.specs.Spans.{span, nowhere as nowhere_rule, is_bad};

@@ -3,6 +3,8 @@
 // Licensed under the Apache License, Version 2.0 (the "License"): see NOTICE.
 // From src/string.rs of RCL, changed: on bytes, output goes to a lent array, parts stand in a lent list, and an error is a numbered refusal.
 
+#![tactic(auto)]
+
 // Utilities for working with strings.
 mod hex;
 mod leading;

@@ -3,6 +3,8 @@
 // Licensed under the Apache License, Version 2.0 (the "License"): see NOTICE.
 // From src/lexer.rs of RCL, changed: positions are passed in and answered, and an error is a numbered refusal.
 
+#![tactic(auto)]
+
 // The sub-lexers: one lexeme at a position, by what stands there. Each answers at every position of every text.
 mod ident;
 mod in_string;

@@ -1,4 +1,6 @@
 // The tally: direct lexing calls accepted and refused, and their steps, one record for all. Each number stops at 2^64 − 1.
+#![tactic(auto)]
+
 ghost use Rattle.std.specs.Prelude.{◌≡◌};
 ghost use Rattle.rules.specs.Lent.{lent};
 ghost use Rattle.rules.specs.Lexing.{Lexes};

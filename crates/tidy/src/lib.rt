@@ -1,4 +1,6 @@
 // The tidy writer: a text's lexemes, with the gap rule's gaps between them.
+#![tactic(auto)]
+
 ghost use Rattle.std.specs.Prelude.{◌≡◌, take};
 ghost use Rattle.rules.specs.Lent.{lexemes_in, lent};
 ghost use Rattle.rules.specs.Tidy.{Tidies};

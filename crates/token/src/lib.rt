@@ -3,6 +3,8 @@
 // Licensed under the Apache License, Version 2.0 (the "License"): see NOTICE.
 // From src/lexer.rs of RCL, changed: kinds have codes, both ways; `Eof`, which no lexer gives, is left out.
 
+#![tactic(auto)]
+
 // The kinds of lexemes, what can be open, and their codes; the class of each byte value.
 ghost use Rattle.std.specs.Prelude.{◌≤◌, ◌≡◌, ◌||◌, eqb, get_or};
 ghost use Rattle.rules.specs.Bytes.{class_of};

@@ -1,4 +1,6 @@
 // UTF-8 by RFC 3629: whether a text is UTF-8, and where its first bad sequence begins; the bytes of a scalar value.
+#![tactic(auto)]
+
 mod encoding;
 
 ghost use Rattle.std.specs.Prelude.{◌≡◌, ℕ, ◌+◌, ◌≤◌, ◌<◌, length, drop};

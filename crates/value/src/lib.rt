@@ -1,4 +1,6 @@
 // The value of a string: its String and Escape parts in order.
+#![tactic(auto)]
+
 mod piece;
 mod pieces;
 mod valuing;

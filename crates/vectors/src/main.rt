@@ -1,5 +1,7 @@
 // Replays the fixed list of inputs that oracle/vectors wrote: runs the call that each line names and prints its answer, a line each. The gate holds
 // what is printed to the file stdout, which has the answers of the Rust and, where it has none, of the judge. A line of another kind is printed as it is.
+#![tactic(auto)]
+
 mod documents;
 mod field;
 mod lexes;

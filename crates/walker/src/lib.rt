@@ -1,4 +1,6 @@
 // The walker: lexing step by step, with a stack in two lent arrays that the caller keeps.
+#![tactic(auto)]
+
 ghost use Rattle.std.specs.Prelude.{◌≡◌};
 ghost use Rattle.rules.specs.Lent.{arrays};
 ghost use Rattle.rules.specs.Walker.{kept_of, kept_bad};

@@ -1,4 +1,6 @@
 // What C is given: answers of the library as structs of words, and what a caller's words tell.
+#![tactic(auto)]
+
 mod lexing;
 mod refusals;
 mod strings;
