@@ -19,7 +19,7 @@ use source::{Refusal, Span};
 use token::Escape;
 
 // A part of a string literal or format string.
-#[derive(Drop)]
+#[derive(Clone, Copy)]
 pub enum StringPart {
     // A fragment of a line. The `\n` is leading, not trailing.
     String(Span),
@@ -30,48 +30,48 @@ pub enum StringPart {
 }
 
 // The part that an entry of a list is, or none.
-#[derive(Drop)]
+#[derive(Clone, Copy)]
 pub enum AsPart {
     Part(StringPart),
     NoPart,
 }
 
 // The closer's place in the list, or why there is none.
-#[derive(Drop)]
+#[derive(Clone, Copy)]
 pub enum Closer {
     At(usize),
     Refused(Refusal),
 }
 
 // What listing the parts answers, and how many were put into the list.
-#[derive(Drop)]
+#[derive(Clone, Copy)]
 pub struct Parted {
     pub answer: Closer,
     pub parts: usize,
 }
 
 // What is open: how many, and the span of the outermost hole's opener where there is one.
-#[derive(Drop)]
+#[derive(Clone, Copy)]
 pub struct Open {
     pub depth: usize,
     pub hole: Span,
 }
 
 // What a lexeme does that does not end the search: it is passed over, with what is open after it, or completes a part.
-#[derive(Drop)]
+#[derive(Clone, Copy)]
 pub enum Progress {
     Passes(Open),
     Yields(StringPart),
 }
 
 // What ends the search: the closer, or a refusal.
-#[derive(Drop)]
+#[derive(Clone, Copy)]
 pub enum Ending {
     Closes,
     Refuses(u8, Span),
 }
 
-#[derive(Drop)]
+#[derive(Clone, Copy)]
 pub enum Effect {
     Goes(Progress),
     Stops(Ending),

@@ -9,7 +9,7 @@ ghost use Rattle.gap.specs.Gaps.{gap_meant};
 use rules::kind;
 
 // What stands between two lexemes.
-#[derive(Drop)]
+#[derive(Clone, Copy)]
 pub enum Gap {
     Nothing,
     LineEnd,

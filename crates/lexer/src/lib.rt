@@ -21,7 +21,7 @@ use sublexers::Fault;
 use token::{Opened, Token};
 
 // What the innermost opener makes of the next step: the byte that ends an inner part beside a quote, 0 outside strings, and whether quotes are triple. Both follow from `top`.
-#[derive(Drop)]
+#[derive(Clone, Copy)]
 pub struct Mode {
     pub stop: u8,
     pub triple: bool,
@@ -29,7 +29,7 @@ pub struct Mode {
 }
 
 // Where the lexer stands, and what it has counted. Steps are lexemes and Spaces; the bytes that were not dropped are kept.
-#[derive(Drop)]
+#[derive(Clone, Copy)]
 pub struct Cursor {
     pub at: usize,
     pub depth: usize,
@@ -40,7 +40,7 @@ pub struct Cursor {
 }
 
 // The whitespace behind a lexeme, and where it ends.
-#[derive(Drop)]
+#[derive(Clone, Copy)]
 pub enum Behind {
     Nothing,
     Space(usize),
@@ -48,14 +48,14 @@ pub enum Behind {
 }
 
 // Where steps came to: to the position where they were to end, with the last one's token, or to a step that was refused.
-#[derive(Drop)]
+#[derive(Clone, Copy)]
 pub enum RunEnd {
     Reached(Cursor, Token),
     Halted(Cursor, Fault),
 }
 
 // A token, its kind code, so that nobody has to look it up, and its span.
-#[derive(Drop)]
+#[derive(Clone, Copy)]
 pub struct TokenAt {
     pub token: Token,
     pub kind: u8,
@@ -63,7 +63,7 @@ pub struct TokenAt {
 }
 
 // What a single step answers: a lexeme, a Space included; that the text has ended; or a refusal.
-#[derive(Drop)]
+#[derive(Clone, Copy)]
 pub enum StepAnswer {
     Lexeme(TokenAt),
     Ended,
@@ -71,7 +71,7 @@ pub enum StepAnswer {
 }
 
 // A single step's answer, and the position and depth after it.
-#[derive(Drop)]
+#[derive(Clone, Copy)]
 pub struct Stepped {
     pub answer: StepAnswer,
     pub position: usize,
@@ -79,7 +79,7 @@ pub struct Stepped {
 }
 
 // What lexing answers: of the steps that were not refused, how many, how many lexemes, how many bytes of lexemes and of spaces, and the most that was open at once.
-#[derive(Drop)]
+#[derive(Clone, Copy)]
 pub struct Lexed {
     pub answer: Verdict,
     pub lexemes: usize,

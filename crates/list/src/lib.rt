@@ -8,7 +8,7 @@ ghost use Rattle.list.specs.Entries.{entry_meant, first_of, put_in};
 use rules::kind;
 use source::Span;
 
-#[derive(Drop)]
+#[derive(Clone, Copy)]
 pub struct Entry {
     pub kind: u8,
     pub at: Span,

@@ -4,7 +4,7 @@ ghost use Rattle.report.specs.Within.{Within};
 use libc::STDIN_FILENO;
 
 // What came of reading.
-#[derive(Drop)]
+#[derive(Clone, Copy)]
 pub(crate) enum Input {
     // The text has ended: so many bytes.
     Ended(usize),

@@ -16,7 +16,7 @@ ghost use Rattle.scan.specs.Measuring.{measured_meant, none, LooksAs, CanGrow, f
 ghost use Rattle.scan.specs.Reach.{Stops};
 
 // The runs that are read seldom, or are short.
-#[derive(Drop)]
+#[derive(Clone, Copy)]
 pub enum Class {
     Hex,
     HexOrUnderscore,
@@ -215,7 +215,7 @@ pub fn inner_end(text: &[u8], at: usize, stop: u8) -> usize
 }
 
 // A run of whitespace: how long it is, how many line ends it has, and how many bytes were looked at to measure it. The run goes on where these are as many as it is long; one more is the byte that ends it.
-#[derive(Drop)]
+#[derive(Clone, Copy)]
 pub struct Measured {
     pub length: usize,
     pub lines: usize,
@@ -223,7 +223,7 @@ pub struct Measured {
 }
 
 // Bytes looked at one after the other: how many, and the last of them. All before it are spaces.
-#[derive(Drop)]
+#[derive(Clone, Copy)]
 struct Looked {
     byte: u8,
     count: usize,

@@ -15,28 +15,28 @@ ghost use Rattle.source.specs.Meaning.{span_meant, refusal_meant, spanned_meant,
 use rules::LIMIT;
 
 // Marks a location in a source file by byte offset. Packed, from the least significant bit: 48 bits start offset, 48 bits end offset, 32 bits document id.
-#[derive(Drop)]
+#[derive(Clone, Copy)]
 pub struct Span {
     pub low: u64,
     pub high: u64,
 }
 
 // A span, or refusal 3.
-#[derive(Drop)]
+#[derive(Clone, Copy)]
 pub enum Spanned {
     Made(Span),
     Refused,
 }
 
 // A length in bytes, or refusal 3.
-#[derive(Drop)]
+#[derive(Clone, Copy)]
 pub enum Length {
     Bytes(usize),
     Refused,
 }
 
 // Whether a span lies inside a text: refusal 3, then 40 with the span.
-#[derive(Drop)]
+#[derive(Clone, Copy)]
 pub enum Inside {
     Yes,
     Bad,
@@ -44,21 +44,21 @@ pub enum Inside {
 }
 
 // What is turned down: document 01's number, where, and perhaps a second place that explains it.
-#[derive(Drop)]
+#[derive(Clone, Copy)]
 pub struct Refusal {
     pub number: u8,
     pub at: Span,
     pub note: Note,
 }
 
-#[derive(Drop)]
+#[derive(Clone, Copy)]
 pub enum Note {
     None,
     At(Span),
 }
 
 // Nothing is said against it, or a refusal.
-#[derive(Drop)]
+#[derive(Clone, Copy)]
 pub enum Verdict {
     Accepted,
     Refused(Refusal),

@@ -20,35 +20,35 @@ use source::Refusal;
 pub use unescape::{scalar_value, unescape_into};
 
 // The scalar value of an escape sequence, or why it has none.
-#[derive(Drop)]
+#[derive(Clone, Copy)]
 pub enum Decoded {
     Scalar(u32),
     Refused(Refusal),
 }
 
 // How many bytes were written, or why none was.
-#[derive(Drop)]
+#[derive(Clone, Copy)]
 pub enum Unescaped {
     Bytes(usize),
     Refused(Refusal),
 }
 
 // How many spaces there are, or which part is refused.
-#[derive(Drop)]
+#[derive(Clone, Copy)]
 pub enum Indented {
     Spaces(usize),
     Refused(Refusal),
 }
 
 // A part of a text, or why it is none.
-#[derive(Drop)]
+#[derive(Clone, Copy)]
 pub enum Checked {
     Part(StringPart),
     Refused(Refusal),
 }
 
 // The fewest spaces of the parts so far.
-#[derive(Drop)]
+#[derive(Clone, Copy)]
 pub enum Fewest {
     None,
     Some(usize),

@@ -26,7 +26,7 @@ pub use space::{is_blank, lex_in_space};
 use token::Token;
 
 // What a step found: where it ends, its token, and the token's kind code. `end` comes first here and in a fault, so that both cases of a step share its place in memory.
-#[derive(Drop)]
+#[derive(Clone, Copy)]
 pub struct Match {
     pub end: usize,
     pub token: Token,
@@ -34,14 +34,14 @@ pub struct Match {
 }
 
 // Why a step was refused, and its span.
-#[derive(Drop)]
+#[derive(Clone, Copy)]
 pub struct Fault {
     pub end: usize,
     pub number: u8,
     pub start: usize,
 }
 
-#[derive(Drop)]
+#[derive(Clone, Copy)]
 pub enum Step {
     Found(Match),
     Refused(Fault),

@@ -12,7 +12,7 @@ ghost use Rattle.tally.specs.Meaning.{tally_meant};
 use lexer::Lexed;
 use source::Verdict;
 
-#[derive(Drop)]
+#[derive(Clone, Copy)]
 pub struct Tally {
     pub accepted: u64,
     pub refused: u64,
@@ -20,7 +20,7 @@ pub struct Tally {
 }
 
 // A result of lexing, and the tally after it.
-#[derive(Drop)]
+#[derive(Clone, Copy)]
 pub struct Counted {
     pub lexed: Lexed,
     pub tally: Tally,

@@ -13,14 +13,14 @@ use rules::{kind, refusal};
 use source::Verdict;
 
 // What lexing answered, or the writing after it, and how many bytes were written.
-#[derive(Drop)]
+#[derive(Clone, Copy)]
 pub struct Tidied {
     pub lexed: Lexed,
     pub written: usize,
 }
 
 // What the writing answers, and how many bytes were written.
-#[derive(Drop)]
+#[derive(Clone, Copy)]
 pub struct Wrote {
     pub answer: Verdict,
     pub bytes: usize,

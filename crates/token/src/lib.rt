@@ -18,7 +18,7 @@ use rules::class::{CONTROL, DIGIT, LETTER, OVER127, PUNCTUATION, WHITESPACE};
 use rules::{kind, refusal};
 
 // What quote style a string literal is quoted in (`"` or `"""`).
-#[derive(Drop)]
+#[derive(Clone, Copy)]
 pub enum QuoteStyle {
     // A string delimited by double quotes (`"`).
     Double,
@@ -27,7 +27,7 @@ pub enum QuoteStyle {
 }
 
 // An escape sequence inside a string literal.
-#[derive(Drop)]
+#[derive(Clone, Copy)]
 pub enum Escape {
     // A single-character escape sequence, e.g. `\n` or `\\`.
     Single,
@@ -38,7 +38,7 @@ pub enum Escape {
 }
 
 // Whether a string literal is a format string or a regular string.
-#[derive(Drop)]
+#[derive(Clone, Copy)]
 pub enum StringPrefix {
     // No prefix, just the quotes: a regular string literal.
     None,
@@ -46,7 +46,7 @@ pub enum StringPrefix {
     Format,
 }
 
-#[derive(Drop)]
+#[derive(Clone, Copy)]
 pub enum Token {
     // A sequence of ascii whitespace not significant for reformatting. Note, this token gets discarded from the result, it is there for internal use in the lexer on only.
     Space,
@@ -161,7 +161,7 @@ pub enum Token {
 }
 
 // A state in the state stack of the lexer: what is open.
-#[derive(Drop)]
+#[derive(Clone, Copy)]
 pub enum State {
     // Inside a `{}` in expression context.
     Brace,
@@ -178,14 +178,14 @@ pub enum State {
 }
 
 // The token of a kind code, or none.
-#[derive(Drop)]
+#[derive(Clone, Copy)]
 pub enum AsToken {
     Token(Token),
     Unknown,
 }
 
 // What an opener's code has opened, or none: it is no opener's.
-#[derive(Drop)]
+#[derive(Clone, Copy)]
 pub enum Opened {
     State(State),
     NoOpener,

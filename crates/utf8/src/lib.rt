@@ -13,14 +13,14 @@ ghost use Rattle.utf8.specs.Blocks.{IfFollows, AllFollow, Largest, IfGood, Start
 pub use encoding::{encode, is_scalar};
 
 // The whole text is UTF-8, or where its first bad sequence begins.
-#[derive(Drop)]
+#[derive(Clone, Copy)]
 pub enum Checked {
     Valid,
     BadAt(usize),
 }
 
 // The bytes of a character: so many of four.
-#[derive(Drop)]
+#[derive(Clone, Copy)]
 pub struct Encoded {
     pub bytes: [u8; 4],
     pub length: usize,

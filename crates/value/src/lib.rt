@@ -9,27 +9,27 @@ use source::Refusal;
 pub use valuing::value;
 
 // Where a value stands: from a start to an end of the text, or of the output.
-#[derive(Drop)]
+#[derive(Clone, Copy)]
 pub enum Held {
     Text(usize, usize),
     Output(usize, usize),
 }
 
-#[derive(Drop)]
+#[derive(Clone, Copy)]
 pub enum Answer {
     Found(Held),
     Refused(Refusal),
 }
 
 // What the value call answers, and how many parts were put into the parts list.
-#[derive(Drop)]
+#[derive(Clone, Copy)]
 pub struct Valued {
     pub answer: Answer,
     pub parts: usize,
 }
 
 // Where in the output the next piece begins, or why one was not written.
-#[derive(Drop)]
+#[derive(Clone, Copy)]
 pub enum Reached {
     To(usize),
     Refused(Refusal),

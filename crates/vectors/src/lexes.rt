@@ -6,7 +6,7 @@ use libc::STDOUT_FILENO;
 use source::{Note, Span, Verdict};
 
 // The lengths of the arrays that a call is lent for its list and its stack.
-#[derive(Drop)]
+#[derive(Clone, Copy)]
 pub struct Lent {
     pub kinds: usize,
     pub words: usize,

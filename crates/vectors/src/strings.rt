@@ -126,7 +126,7 @@ pub(crate) fn indent(line: &[u8], a: usize) {
 }
 
 // What a call on the parts of a string is given: the lengths of the list's arrays, the count that is said and the opener's place; and the lengths of the arrays that it is lent for its parts.
-#[derive(Drop)]
+#[derive(Clone, Copy)]
 pub struct Given {
     pub kinds: usize,
     pub words: usize,

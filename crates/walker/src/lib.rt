@@ -16,7 +16,7 @@ use source::{Refusal, Span, Spanned};
 use utf8::Checked;
 
 // What a walker keeps from its opening: nothing, that the text is too long (2), or where it is not UTF-8 (1).
-#[derive(Drop)]
+#[derive(Clone, Copy)]
 pub enum Kept {
     Nothing,
     TooLong,
@@ -82,7 +82,7 @@ fn step_at(
 }
 
 // A walker over a text that it borrows.
-#[derive(Drop)]
+#[derive(Clone, Copy)]
 pub struct Walker<'a> {
     pub text: &'a [u8],
     pub doc: u32,
@@ -92,7 +92,7 @@ pub struct Walker<'a> {
 }
 
 // A step's answer, and the walker after it.
-#[derive(Drop)]
+#[derive(Clone, Copy)]
 pub struct Walked<'a> {
     pub answer: StepAnswer,
     pub next: Walker<'a>,

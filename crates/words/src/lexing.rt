@@ -15,7 +15,7 @@ use utf8::Checked;
 
 // The result of lexing: the refusal, its note, and the counts.
 #[repr(C)]
-#[derive(Drop)]
+#[derive(Clone, Copy)]
 pub struct LexedWords {
     pub refusal: RefusalWords,
     pub note: NoteWords,
@@ -28,7 +28,7 @@ pub struct LexedWords {
 
 // The result of tidying: that of lexing or of the writing after it, and the bytes written.
 #[repr(C)]
-#[derive(Drop)]
+#[derive(Clone, Copy)]
 pub struct TidiedWords {
     pub lexed: LexedWords,
     pub written: u64,
@@ -36,7 +36,7 @@ pub struct TidiedWords {
 
 // The result of a counted lexing call, and the tally after it.
 #[repr(C)]
-#[derive(Drop)]
+#[derive(Clone, Copy)]
 pub struct CountedWords {
     pub lexed: LexedWords,
     pub accepted: u64,

@@ -7,7 +7,7 @@ use source::{Note, Refusal};
 
 // Whether there is a refusal, its number and its span.
 #[repr(C)]
-#[derive(Drop)]
+#[derive(Clone, Copy)]
 pub struct RefusalWords {
     pub refused: u64,
     pub number: u64,
@@ -17,7 +17,7 @@ pub struct RefusalWords {
 
 // Whether there is a note, and its span.
 #[repr(C)]
-#[derive(Drop)]
+#[derive(Clone, Copy)]
 pub struct NoteWords {
     pub noted: u64,
     pub low: u64,

@@ -17,7 +17,7 @@ use value::{Answer, Held, Valued};
 
 // A number, or the refusal.
 #[repr(C)]
-#[derive(Drop)]
+#[derive(Clone, Copy)]
 pub struct AnswerWords {
     pub refusal: RefusalWords,
     pub count: u64,
@@ -25,7 +25,7 @@ pub struct AnswerWords {
 
 // The closer's place, or the refusal, and how many parts were put.
 #[repr(C)]
-#[derive(Drop)]
+#[derive(Clone, Copy)]
 pub struct PartedWords {
     pub refusal: RefusalWords,
     pub closer: u64,
@@ -34,7 +34,7 @@ pub struct PartedWords {
 
 // Where a value stands, or the refusal: whether the output holds it, its start and end, and how many parts were put.
 #[repr(C)]
-#[derive(Drop)]
+#[derive(Clone, Copy)]
 pub struct ValuedWords {
     pub refusal: RefusalWords,
     pub output: u64,

@@ -19,7 +19,7 @@ use source::{Refusal, Span};
 use walker::Kept;
 
 // What words tell that a walker keeps; wrong where no walker of the document keeps anything of the kind.
-#[derive(Drop)]
+#[derive(Clone, Copy)]
 pub enum Told {
     Kept(Kept),
     Wrong,
@@ -27,7 +27,7 @@ pub enum Told {
 
 // A step: 0 for a lexeme, 1 for the end, 2 for a refusal; the kind or the number, the span, the note; where the walker then stands. A lexeme and a refusal share number and span, so these are no RefusalWords.
 #[repr(C)]
-#[derive(Drop)]
+#[derive(Clone, Copy)]
 pub struct SteppedWords {
     pub answer: u64,
     pub number: u64,
