@@ -1,0 +1,25 @@
+-- The tests are those of `words3`: at each return the tests before it fail, and its own passes.
+use mathlib.Core.Path.{refl, sym}
+use Rattle.token.specs.Codes.{code_of}
+use Rattle.sublexers.proofs.Identifier.{words3}
+use Rattle.sublexers.proofs.ident.keyword3.Goals as goal
+
+pub returns-then-a-b : goal.returns-then-a-b
+unfolding code_of
+returns-then-a-b c = sym (words3 _ _ _ c.if-a-b.true refl refl refl)
+
+pub returns-then-a-b-2 : goal.returns-then-a-b-2
+unfolding code_of
+returns-then-a-b-2 c = sym (words3 _ _ _ c.if-a-b.false c.if-a-b-2.true refl refl)
+
+pub returns-then-a-b-3 : goal.returns-then-a-b-3
+unfolding code_of
+returns-then-a-b-3 c = sym (words3 _ _ _ c.if-a-b.false c.if-a-b-2.false c.if-a-b-3.true refl)
+
+pub returns-then-a-b-4 : goal.returns-then-a-b-4
+unfolding code_of
+returns-then-a-b-4 c = sym (words3 _ _ _ c.if-a-b.false c.if-a-b-2.false c.if-a-b-3.false c.if-a-b-4.true)
+
+pub returns : goal.returns
+unfolding code_of
+returns c = sym (words3 _ _ _ c.if-a-b.false c.if-a-b-2.false c.if-a-b-3.false c.if-a-b-4.false)

@@ -1,0 +1,33 @@
+-- `number_at` and `decimal-at`, whose tests the branches decide.
+use mathlib.Core.Path.{refl, sym, ◌∙◌}
+use native.Mathlib.Omega.{arith}
+use lib.ListN.{drop}
+use Rattle.sublexers.specs.ByClass.{fraction_alone}
+use Rattle.sublexers.proofs.Outcomes.{found-means}
+use Rattle.sublexers.proofs.Numbers.{number_at, decimal-at, some-inside}
+use Rattle.sublexers.proofs.number.lex_in_number.Goals as goal
+
+pub overflow_add-at : goal.overflow_add-at
+overflow_add-at c = omega (arith, some-inside c.args.text.now c.args.at (sym c.byte_at.ensures ∙ c.if-byte_at-eq48.true))
+
+pub binary_at-requires : goal.binary_at-requires
+binary_at-requires c = some-inside c.args.text.now c.args.at (sym c.byte_at.ensures ∙ c.if-byte_at-eq48.true)
+
+pub returns-then-p-eq98 : goal.returns-then-p-eq98
+returns-then-p-eq98 c = rw (number_at, ← c.byte_at.ensures, c.if-byte_at-eq48.true, ← c.byte_at-p.ensures, c.if-p-eq98.true) c.binary_at.ensures
+
+pub hexadecimal_at-requires : goal.hexadecimal_at-requires
+hexadecimal_at-requires c = some-inside c.args.text.now c.args.at (sym c.byte_at.ensures ∙ c.if-byte_at-eq48.true)
+
+pub returns-then-p-eq120 : goal.returns-then-p-eq120
+returns-then-p-eq120 c = rw (number_at, ← c.byte_at.ensures, c.if-byte_at-eq48.true, ← c.byte_at-p.ensures, c.if-p-eq120.true) c.hexadecimal_at.ensures
+
+pub returns-in_default : goal.returns-in_default
+returns-in_default c = rw (no-prefix c.before.before.before.before, decimal-at, ← c.int_end-m.ensures, ← c.fraction_at-f.ensures, c.in_default.is) refl
+
+pub returns : goal.returns
+returns c =
+    let t = c.args.text.now in
+    let m = c.int_end-m.result in
+    let fraction = found-means m (fraction_alone (drop m t)) _ _ c.in-Found.is c.fraction_at-f.ensures in
+    rw (no-prefix c.before.before.before.before.before.before, decimal-at, ← c.int_end-m.ensures, ← fraction.1) c.exponent_at.ensures

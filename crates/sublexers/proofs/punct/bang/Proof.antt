@@ -1,9 +1,0 @@
--- The callee, with these tokens' codes.
-use borrow.Author.Rules.{rules}
-use Rattle.token.specs.Codes.{code_of}
-use Rattle.sublexers.proofs.punct.bang.Statement.{statement}
-use Rattle.sublexers.proofs.punct.bang.Tie as tie
-
-pub bang-spec : {M : Type 1} → statement M
-unfolding code_of
-bang-spec = tie.close (tie.spec (λ c κs. search rules) (λ c. c.one-or-two.ensures))
