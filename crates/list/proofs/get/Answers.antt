@@ -20,9 +20,8 @@ returns-then-places-place c =
 
 pub returns : goal.returns
 returns c =
-    let i = c.before.before.before in
-    let a = i.before.before.before.before.args in
+    let a = c.args in
     let ks = a.kinds.now in
     let ws = a.words.now in
-    let there : a.place < places_of ks ws = omega (arith, i.if1.false, i.before.places.ensures) in
+    let there : a.place < places_of ks ws = omega (arith, c.if-places-place.false, c.places.ensures) in
     sym (lexeme-at ks ws a.place there)

@@ -4,9 +4,10 @@ use native.Mathlib.Omega.{arith}
 use mathlib.Core.Path.{refl}
 use borrow.Author.Rules.{rules}
 use lib.ListN.{drop, length-drop}
+use Rattle.rules.proofs.Bounds.{give_back-le}
 use Rattle.rules.proofs.Runs.{run-le}
 use Rattle.token.specs.Codes.{code_of}
-use Rattle.sublexers.specs.Words.{is_identifier_byte_in}
+use Rattle.sublexers.specs.Words.{is_identifier_byte_in, Within}
 use Rattle.sublexers.proofs.Identifier.{part_none, other_length, identifier-at}
 use Rattle.sublexers.proofs.ident.lex_in_ident.Goals as goal
 
@@ -30,13 +31,25 @@ lexeme_to-requires c = search rules
 pub returns-then-size : goal.returns-then-size
 unfolding code_of
 returns-then-size c =
+    let part : Within c.args.at c.give_back-end.result c.args.text.now = let a = c.args in
+    let s = drop a.at a.text.now in
+    record {
+      order = omega arith;
+      inside = omega (arith, run-le (is_identifier_byte_in a.table.now) s, length-drop a.at a.text.now, give_back-le s (c.ident_end-run.result - a.at));
+    } in
     let a = c.args in
-    let there = c.before.before in
-    rw (c.lexeme_to.ensures, identifier-at (is_identifier_byte_in a.table.now) a.text.now a.at _ _ there.before.ident-end.ensures there.give-back.ensures, part_none (part there) (other_length _ c.if-size.true)) refl
+    rw (c.lexeme_to.ensures, identifier-at (is_identifier_byte_in a.table.now) a.text.now a.at _ _ c.ident_end-run.ensures c.give_back-end.ensures, part_none part (other_length _ c.if-size.true)) refl
 
 pub get_keyword_or_ident-token-requires : goal.get_keyword_or_ident-token-requires
 unfolding code_of
-get_keyword_or_ident-token-requires c = part c.before
+get_keyword_or_ident-token-requires c =
+    let part : Within c.args.at c.give_back-end.result c.args.text.now = let a = c.args in
+    let s = drop a.at a.text.now in
+    record {
+      order = omega arith;
+      inside = omega (arith, run-le (is_identifier_byte_in a.table.now) s, length-drop a.at a.text.now, give_back-le s (c.ident_end-run.result - a.at));
+    } in
+    part
 
 pub code-requires : goal.code-requires
 unfolding code_of
@@ -49,5 +62,4 @@ lexeme_to-requires-2 c = search rules
 pub returns : goal.returns
 returns c =
     let a = c.args in
-    let there = c.before.before.before.before in
-    rw (c.lexeme_to-2.ensures, c.get_keyword_or_ident-token.ensures, identifier-at (is_identifier_byte_in a.table.now) a.text.now a.at _ _ there.before.ident-end.ensures there.give-back.ensures) refl
+    rw (c.lexeme_to-2.ensures, c.get_keyword_or_ident-token.ensures, identifier-at (is_identifier_byte_in a.table.now) a.text.now a.at _ _ c.ident_end-run.ensures c.give_back-end.ensures) refl

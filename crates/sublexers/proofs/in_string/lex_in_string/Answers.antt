@@ -1,12 +1,17 @@
 -- The first byte tells the cases apart; each is a law of `Quoted`.
-use mathlib.Core.Path.{refl, sym, ◌∙◌}
+use Prim.Native.Nat.{◌+◌}
+use mathlib.Core.List.{◌∷◌}
+use mathlib.Core.Path.{◌≡◌, refl, sym, ◌∙◌}
+use lib.ListN.{drop}
 use native.Mathlib.Omega.{arith}
-use borrow.Author.Tests.{le-leb, lt-leb, eq-eqb}
+use borrow.Author.Tests.{le-leb, lt-leb, eq-eqb, ne_eqb}
 use borrow.Author.Rules.{rules}
 use Rattle.token.specs.Codes.{code_of}
 use Rattle.sublexers.specs.Outcome.{last_position}
+use Rattle.sublexers.specs.Quotes.{inner_by, inside_by}
 use Rattle.sublexers.proofs.Quoted.{close-end, at-escape, at-quote, at_other, inner-at, line_at}
 use Rattle.sublexers.proofs.in_string.lex_in_string.Goals as goal
+use Rattle.sublexers.proofs.in_string.lex_in_string.Goals.{then-first-eq34+else-closes_string, else-first-eq34+else-first-stop}
 
 pub refused_at-requires : goal.refused_at-requires
 unfolding code_of
@@ -92,9 +97,13 @@ pub returns-then-first-byte_at : goal.returns-then-first-byte_at
 unfolding code_of
 returns-then-first-byte_at c =
     let a = c.args in
+    let inner : inside_by a.stop a.triple (a.first ∷ drop (a.at + 1) a.text.now) ≡ inner_by a.stop (a.first ∷ drop (a.at + 1) a.text.now) =
+    elim c.if-first-eq34.branch [
+        then-first-eq34+else-closes_string w ↦ rw (at-quote a.text.now a.at a.first _ refl a.stop a.triple w.if-first-eq34.true, sym w.closes_string.ensures ∙ w.if-closes_string.false) refl
+      | else-first-eq34+else-first-stop w ↦ rw (at_other a.text.now a.at a.first _ refl a.stop a.triple c.if-first-eq92.false w.if-first-eq34.false, ne_eqb a.first a.stop w.if-first-stop.false) refl ] in
     rw (
       lt-leb last_position _ c.if-at-ge-LAST.false,
-      inner c.before.before.before,
+      inner,
       inner-at a.text.now a.at a.first _ refl a.stop a.triple,
       line_at a.text.now a.at a.first _ refl a.stop (rw c.byte_at.ensures at c.if-first-byte_at.true),
     )
@@ -116,9 +125,13 @@ pub returns : goal.returns
 unfolding code_of
 returns c =
     let a = c.args in
+    let inner : inside_by a.stop a.triple (a.first ∷ drop (a.at + 1) a.text.now) ≡ inner_by a.stop (a.first ∷ drop (a.at + 1) a.text.now) =
+    elim c.if-first-eq34.branch [
+        then-first-eq34+else-closes_string w ↦ rw (at-quote a.text.now a.at a.first _ refl a.stop a.triple w.if-first-eq34.true, sym w.closes_string.ensures ∙ w.if-closes_string.false) refl
+      | else-first-eq34+else-first-stop w ↦ rw (at_other a.text.now a.at a.first _ refl a.stop a.triple c.if-first-eq92.false w.if-first-eq34.false, ne_eqb a.first a.stop w.if-first-stop.false) refl ] in
     rw (
       lt-leb last_position _ c.if-at-ge-LAST.false,
-      inner c.before.before.before.before,
+      inner,
       inner-at a.text.now a.at a.first _ refl a.stop a.triple,
       ← c.inner_end.ensures,
     )

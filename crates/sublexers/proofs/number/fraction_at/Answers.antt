@@ -1,11 +1,8 @@
 -- `fraction-at`, whose tests the branches decide: the byte at the position, and the byte after it.
-use Prim.Native.Nat.{◌+◌}
 use mathlib.Core.Path.{refl, sym, ◌∙◌}
 use native.Mathlib.Omega.{arith}
-use lib.ListN.{get_or}
-use borrow.Author.Tests.{ne_eqb, not-true, not-false}
+use borrow.Author.Tests.{ne_eqb}
 use borrow.Author.Rules.{rules}
-use Rattle.rules.specs.Bytes.{is_digit}
 use Rattle.token.specs.Codes.{code_of}
 use Rattle.sublexers.proofs.Numbers.{fraction-at, some-inside}
 use Rattle.sublexers.proofs.number.fraction_at.Goals as goal
@@ -29,7 +26,7 @@ returns-then-not-is_digit c =
     let t = c.args.text.now in
     let at = c.args.at in
     let dot = sym c.byte_at-p.ensures ∙ c.if-p-ne46.false in
-    let other = not-true (is_digit (get_or t (at + 1) 0)) (rw (c.is_digit.ensures, c.byte_at-d.ensures) at c.if-not-is_digit.true) in
+    let other = rw (c.is_digit.ensures, c.byte_at-d.ensures) at c.if-not-is_digit.true in
     rw (c.refused_at.ensures, fraction-at, dot, other) refl
 
 pub overflow_add-at-2 : goal.overflow_add-at-2
@@ -45,5 +42,5 @@ returns c =
     let t = c.args.text.now in
     let at = c.args.at in
     let dot = sym c.byte_at-p.ensures ∙ c.if-p-ne46.false in
-    let digit = not-false (is_digit (get_or t (at + 1) 0)) (rw (c.is_digit.ensures, c.byte_at-d.ensures) at c.if-not-is_digit.false) in
+    let digit = rw (c.is_digit.ensures, c.byte_at-d.ensures) at c.if-not-is_digit.false in
     rw (c.lexeme_to-2.ensures, fraction-at, dot, digit, c.digits_end.ensures) refl
