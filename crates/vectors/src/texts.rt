@@ -2,7 +2,9 @@
 ghost use Rattle.std.specs.Prelude.{◌≤◌};
 ghost use Rattle.io.specs.Counts.{IsPrefixLen};
 
-use libc::STDOUT_FILENO;
+use crate::lists;
+use std::io;
+use std::io::Write;
 use utf8::Checked;
 
 // The value of a hexadecimal digit in lower case, 16 for any other byte.
@@ -61,16 +63,12 @@ pub(crate) fn read_bytes(line: &[u8], start: usize, bytes: &mut [u8]) -> usize
 }
 
 // `utf8 BYTES`: `ok`, or where the first bad sequence begins.
-pub(crate) fn utf8(line: &[u8], start: usize) {
+pub(crate) fn utf8<W: Write>(to: &mut W, line: &[u8], start: usize) -> io::Result<()> {
     let mut bytes = [0u8; 256];
     let n = read_bytes(line, start, &mut bytes);
     let checked = utf8::check(&bytes[..n]);
     match checked {
-        Checked::Valid => {
-            io::write_all(STDOUT_FILENO, b"ok");
-        }
-        Checked::BadAt(at) => {
-            io::print_decimal(STDOUT_FILENO, at as u64);
-        }
+        Checked::Valid => to.write_all(b"ok"),
+        Checked::BadAt(at) => lists::print_number(to, at as u64),
     }
 }
