@@ -1,2 +1,0 @@
--- counts and lengths of lent lists
-pub mod Lent
