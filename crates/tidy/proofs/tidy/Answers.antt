@@ -8,9 +8,9 @@ use Rattle.tidy.proofs.tidy.Goals as goal
 
 pub returns-in_default : goal.returns-in_default
 returns-in_default c =
-    let refusal = c.in_default.given in
-    let why : Refusal = refusal_meant refusal.0.0 in
-    let verdict : (lexed_meant c.lex-lexed.result).verdict ≡ refused why = rw refusal.1 refl in
+    let refusal = c.in_default in
+    let why : Refusal = refusal_meant refusal.field-0 in
+    let verdict : (lexed_meant c.lex-lexed.result).verdict ≡ refused why = rw refusal.is refl in
     tidies-refused c.args.output.now why c.lex-lexed.ensures verdict
 
 pub returns : goal.returns

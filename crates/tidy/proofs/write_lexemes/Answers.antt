@@ -25,7 +25,7 @@ loop-i-init c =
 pub shape_of-output-then-not-put_piece : goal.shape_of-output-then-not-put_piece
 shape_of-output-then-not-put_piece c =
     let loop = c.loop-i in
-    let put : Put (gap_meant c.gap_between-between.result ++ c.resolve-lexeme.result.now) loop.at loop.output false c.put_piece.new.lexeme.1.0 =
+    let put : Put (gap_meant c.gap_between-between.result ++ c.resolve-lexeme.result.now) loop.at loop.output false c.put_piece.new.output =
     rw (c.if-not-put_piece.true) at c.put_piece.ensures in
     ap length (put-false put).1 ∙ writing-length loop.invariant
 
@@ -40,8 +40,8 @@ returns-then-not-put_piece c =
     let among : loop.i < length ls = rw c.end-end.ensures at c.loop-i-test.true in
     let here : drop loop.i ls ≡ l ∷ drop (loop.i + 1) ls = from_place args.lexemes all loop.i l among c.get-entry.ensures in
     let between : gap_meant c.gap_between-between.result ≡ gap loop.first l.kind = c.gap_between-between.ensures in
-    let bytes : c.resolve-lexeme.result.now ≡ part_of (resolved text l.at) = c.resolve-lexeme.ensures.0 in
-    let put : Put (piece_of text loop.first l) loop.at loop.output false c.put_piece.new.lexeme.1.0 = rw (← between, ← bytes, ← c.if-not-put_piece.true) c.put_piece.ensures in
+    let bytes : c.resolve-lexeme.result.now ≡ part_of (resolved text l.at) = c.resolve-lexeme.ensures.result_value in
+    let put : Put (piece_of text loop.first l) loop.at loop.output false c.put_piece.new.output = rw (← between, ← bytes, ← c.if-not-put_piece.true) c.put_piece.ensures in
     rw (c.finish.ensures.0, c.finish.ensures.1, c.refuse.ensures) (writing-stop l loop.invariant here put)
 
 pub overflow_add-at : goal.overflow_add-at
@@ -49,7 +49,7 @@ overflow_add-at c =
     let loop = c.loop-i in
     let between : List ℕ = gap_meant c.gap_between-between.result in
     let bytes : List ℕ = c.resolve-lexeme.result.now in
-    let put : Put (between ++ bytes) loop.at loop.output true c.put_piece.new.lexeme.1.0 = rw (c.if-not-put_piece.false) at c.put_piece.ensures in
+    let put : Put (between ++ bytes) loop.at loop.output true c.put_piece.new.output = rw (c.if-not-put_piece.false) at c.put_piece.ensures in
     let most : loop.at + length (between ++ bytes) ≤ limit = put-limit put in
     omega (arith, most, length-append between bytes, c.gap_length.ensures)
 
@@ -58,7 +58,7 @@ overflow_add-at-in-loop-i c =
     let loop = c.loop-i in
     let between : List ℕ = gap_meant c.gap_between-between.result in
     let bytes : List ℕ = c.resolve-lexeme.result.now in
-    let put : Put (between ++ bytes) loop.at loop.output true c.put_piece.new.lexeme.1.0 = rw (c.if-not-put_piece.false) at c.put_piece.ensures in
+    let put : Put (between ++ bytes) loop.at loop.output true c.put_piece.new.output = rw (c.if-not-put_piece.false) at c.put_piece.ensures in
     let most : loop.at + length (between ++ bytes) ≤ limit = put-limit put in
     omega (arith, most, length-append between bytes, c.gap_length.ensures)
 
@@ -79,8 +79,8 @@ loop-i-preserved c =
     let among : loop.i < length ls = rw c.end-end.ensures at c.loop-i-test.true in
     let here : drop loop.i ls ≡ l ∷ drop (loop.i + 1) ls = from_place args.lexemes all loop.i l among c.get-entry.ensures in
     let between : gap_meant c.gap_between-between.result ≡ gap loop.first l.kind = c.gap_between-between.ensures in
-    let bytes : c.resolve-lexeme.result.now ≡ part_of (resolved text l.at) = c.resolve-lexeme.ensures.0 in
-    let put : Put (piece_of text loop.first l) loop.at loop.output true c.put_piece.new.lexeme.1.0 = rw (← between, ← bytes, ← c.if-not-put_piece.false) c.put_piece.ensures in
+    let bytes : c.resolve-lexeme.result.now ≡ part_of (resolved text l.at) = c.resolve-lexeme.ensures.result_value in
+    let put : Put (piece_of text loop.first l) loop.at loop.output true c.put_piece.new.output = rw (← between, ← bytes, ← c.if-not-put_piece.false) c.put_piece.ensures in
     let next : ℕ = loop.at + c.gap_length.result + length c.resolve-lexeme.result.now in
     let size : next ≡ loop.at + length (piece_of text loop.first l) =
     rw (← between, ← bytes) (omega (arith, c.gap_length.ensures, length-append (gap_meant c.gap_between-between.result) c.resolve-lexeme.result.now)) in
