@@ -18,14 +18,12 @@ pub(crate) fn line_end(list: &[u8], start: usize) -> usize
 pub(crate) fn end_of(line: &[u8], start: usize) -> usize
     ensures { start ≤ result }
 {
-    let mut i = start;
-    while i < line.len() {
+    for i in start..line.len() {
         if line[i] == b' ' {
             return i;
         }
-        i += 1;
     }
-    i
+    basics::greater(start, line.len())
 }
 
 // Where the field begins that follows one which ended at `end`.

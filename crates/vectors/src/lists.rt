@@ -45,9 +45,8 @@ fn narrow(n: u64) -> u8 {
 
 // Reads the list that begins at `start`, as much of it as there is room for.
 pub(crate) fn read_list(line: &[u8], start: usize, kinds: &mut [u8], words: &mut [u64]) {
-    let mut n: usize = 0;
     let mut a = start;
-    while n < kinds.len() {
+    for n in 0..kinds.len() {
         if words.len() / 2 <= n {
             return;
         }
@@ -60,7 +59,6 @@ pub(crate) fn read_list(line: &[u8], start: usize, kinds: &mut [u8], words: &mut
         words[n * 2] = field::number(line, b);
         words[n * 2 + 1] = field::number(line, c);
         a = field::after(line, field::end_of(line, c));
-        n += 1;
     }
 }
 
@@ -84,23 +82,19 @@ pub(crate) fn print_list<W: Write>(
 
 // Where what was written ends: behind the last place that does not hold the mark any more.
 pub(crate) fn bytes_end(bytes: &[u8]) -> usize {
-    let mut n = bytes.len();
-    while 0 < n {
-        if bytes[n - 1] != MARK {
-            return n;
+    for n in (0..bytes.len()).rev() {
+        if bytes[n] != MARK {
+            return n + 1;
         }
-        n -= 1;
     }
     0
 }
 
 pub(crate) fn words_end(words: &[u64]) -> usize {
-    let mut n = words.len();
-    while 0 < n {
-        if words[n - 1] != MARKED {
-            return n;
+    for n in (0..words.len()).rev() {
+        if words[n] != MARKED {
+            return n + 1;
         }
-        n -= 1;
     }
     0
 }

@@ -138,7 +138,7 @@ fn room() -> [u8; 786432]
 }
 
 // Reads the list to its end, as much of it as there is room for.
-fn read_list<R: Read>(from: &mut R, buffer: &mut [u8]) -> io::Result<usize>
+fn read_input<R: Read>(from: &mut R, buffer: &mut [u8]) -> io::Result<usize>
     ensures { IfOk result (λ n. n ≤ length buffer.new) }
 {
     let mut done: usize = 0;
@@ -154,7 +154,7 @@ fn read_list<R: Read>(from: &mut R, buffer: &mut [u8]) -> io::Result<usize>
 
 fn main(rt: HostRuntime) -> io::Result<()> {
     let mut buffer = room();
-    let n = read_list(&mut rt.stdin(), &mut buffer)?;
+    let n = read_input(&mut rt.stdin(), &mut buffer)?;
     let mut to = BufWriter::new(rt.alloc(), rt.stdout())?;
     replay_all(&mut to, &buffer[..n])?;
     to.flush()

@@ -43,10 +43,9 @@ fn pair(high: u8, low: u8) -> u8 {
 pub(crate) fn read_bytes(line: &[u8], start: usize, bytes: &mut [u8]) -> usize
     ensures { IsPrefixLen result bytes.new }
 {
-    let mut n = 0;
     let mut i = start;
-    while i < line.len() {
-        if bytes.len() <= n {
+    for n in 0..bytes.len() {
+        if line.len() <= i {
             return n;
         }
         if line.len() - i < 2 {
@@ -56,10 +55,9 @@ pub(crate) fn read_bytes(line: &[u8], start: usize, bytes: &mut [u8]) -> usize
             return n;
         }
         bytes[n] = pair(line[i], line[i + 1]);
-        n += 1;
         i += 2;
     }
-    n
+    bytes.len()
 }
 
 // `utf8 BYTES`: `ok`, or where the first bad sequence begins.
