@@ -1,5 +1,5 @@
 // Lists of lexemes or parts: `KIND LOW HIGH KIND LOW HIGH ..` to the line's end.
-ghost use Rattle.io.specs.Counts.{IsPrefixLen};
+ghost use Rattle.std.specs.Prelude.{◌≡◌, ◌≤◌, length, take};
 
 use crate::field;
 use std::io;
@@ -12,7 +12,8 @@ pub(crate) const MARKED: u64 = 0xEEEE_EEEE_EEEE_EEEE;
 
 // So many places of an array, as far as it has them.
 pub(crate) fn bytes_of(bytes: &[u8], n: usize) -> usize
-    ensures { IsPrefixLen result bytes.now }
+    ensures bound { result ≤ length bytes.now }
+    ensures len { result ≡ length (take result bytes.now) }
 {
     if n < bytes.len() {
         return n;
@@ -21,7 +22,8 @@ pub(crate) fn bytes_of(bytes: &[u8], n: usize) -> usize
 }
 
 pub(crate) fn words_of(words: &[u64], n: usize) -> usize
-    ensures { IsPrefixLen result words.now }
+    ensures bound { result ≤ length words.now }
+    ensures len { result ≡ length (take result words.now) }
 {
     if n < words.len() {
         return n;

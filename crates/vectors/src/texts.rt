@@ -1,6 +1,5 @@
 // Texts in hexadecimal, and the UTF-8 check.
-ghost use Rattle.std.specs.Prelude.{◌≤◌};
-ghost use Rattle.io.specs.Counts.{IsPrefixLen};
+ghost use Rattle.std.specs.Prelude.{◌≡◌, ◌≤◌, length, take};
 
 use crate::lists;
 use std::io;
@@ -41,7 +40,8 @@ fn pair(high: u8, low: u8) -> u8 {
 
 // Writes the bytes of the field that begins at `start`, as many as there is room for, and says how many: none of `-`.
 pub(crate) fn read_bytes(line: &[u8], start: usize, bytes: &mut [u8]) -> usize
-    ensures { IsPrefixLen result bytes.new }
+    ensures bound { result ≤ length bytes.new }
+    ensures len { result ≡ length (take result bytes.new) }
 {
     let mut i = start;
     for n in 0..bytes.len() {

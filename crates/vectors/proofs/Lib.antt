@@ -1,0 +1,2 @@
+-- the lengths of large rooms
+pub mod Lent
