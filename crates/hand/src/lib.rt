@@ -55,5 +55,7 @@ pub fn hand<'t: 'r, 'o: 'r, 'r>(text: &'t [u8], output: &'o [u8], part: Held) ->
     ensures hands_back { HandsBack text.now output.now (held_meant part) result.now }
     ensures ref_ptr_value { result.ref_ptr ≡ handed_at text.entry output.entry (held_meant part) }
 {
-    hand_in_one_lifetime(text, output, part)
+    let t: &'r [u8] = text;
+    let o: &'r [u8] = output;
+    hand_in_one_lifetime(t, o, part)
 }

@@ -14,8 +14,8 @@ pub extern "C" fn rcl_hand_check(
     start: usize,
     end: usize,
 ) -> AnswerWords
-    ensures result_value { answer_in result ≡ or_zero (hand_check text.now output.now (held_in which start end)) }
-    ensures value { result ≡ canonical_answer result }
+    ensures meaning { answer_in result ≡ or_zero (hand_check text.now output.now (held_in which start end)) }
+    ensures canonical { result ≡ canonical_answer result }
 {
     let part = words::part(which, start, end);
     let checked = hand::check(text, output, part);

@@ -28,7 +28,7 @@ pub extern "C" fn rcl_lex(
     swords: &mut [u64],
 ) -> LexedWords
     ensures lexes { Lexes doc text.now (lent kinds.old words.old) (lent skinds.old swords.old) (lexed_in result) (lent kinds.new words.new) (lent skinds.new swords.new) }
-    ensures value { result ≡ canonical_lexed result }
+    ensures canonical { result ≡ canonical_lexed result }
 {
     let r = lexer::lex(doc, text, kinds, words, skinds, swords);
     words::lexed(r)
@@ -46,7 +46,7 @@ pub extern "C" fn rcl_tidy(
     output: &mut [u8],
 ) -> TidiedWords
     ensures tidies { Tidies doc text.now (lent kinds.old words.old) (lent skinds.old swords.old) output.old (lexed_in result.lexed) result.written (lent kinds.new words.new) (lent skinds.new swords.new) output.new }
-    ensures lexed_value { result.lexed ≡ canonical_lexed result.lexed }
+    ensures canonical { result.lexed ≡ canonical_lexed result.lexed }
 {
     let r = tidy::tidy(doc, text, kinds, words, skinds, swords, output);
     words::tidied(r)

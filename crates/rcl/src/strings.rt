@@ -31,8 +31,8 @@ pub extern "C" fn rcl_is_keyword(bytes: &[u8]) -> bool
 // The scalar value of an escape sequence.
 #[unsafe(no_mangle)]
 pub extern "C" fn rcl_scalar_value(text: &[u8], low: u64, high: u64, kind: u8) -> AnswerWords
-    ensures result_value { answer_in result ≡ escape_scalar text.now (span_of low high) kind }
-    ensures value { result ≡ canonical_answer result }
+    ensures meaning { answer_in result ≡ escape_scalar text.now (span_of low high) kind }
+    ensures canonical { result ≡ canonical_answer result }
 {
     let span = Span {
         low: low,
@@ -53,7 +53,7 @@ pub extern "C" fn rcl_unescape_into(
     position: usize,
 ) -> AnswerWords
     ensures unescapes { Unescapes text.now (span_of low high) kind output.old position (answer_in result) output.new }
-    ensures value { result ≡ canonical_answer result }
+    ensures canonical { result ≡ canonical_answer result }
 {
     let span = Span {
         low: low,
@@ -71,8 +71,8 @@ pub extern "C" fn rcl_count_common_leading_spaces(
     words: &[u64],
     count: usize,
 ) -> AnswerWords
-    ensures result_value { answer_in result ≡ indent_call text.now (arrays kinds.now words.now) count }
-    ensures value { result ≡ canonical_answer result }
+    ensures meaning { answer_in result ≡ indent_call text.now (arrays kinds.now words.now) count }
+    ensures canonical { result ≡ canonical_answer result }
 {
     let answer = string::count_common_leading_spaces(text, kinds, words, count);
     words::indented(answer)
@@ -89,7 +89,7 @@ pub extern "C" fn rcl_parts(
     pwords: &mut [u64],
 ) -> PartedWords
     ensures lists_parts { ListsParts (arrays kinds.now words.now) count place (arrays pkinds.old pwords.old) (closer_in result) result.parts (arrays pkinds.new pwords.new) }
-    ensures value { result ≡ canonical_parted result }
+    ensures canonical { result ≡ canonical_parted result }
 {
     let r = cst::parts(kinds, words, count, place, pkinds, pwords);
     words::parted(r)
@@ -109,7 +109,7 @@ pub extern "C" fn rcl_value(
     position: usize,
 ) -> ValuedWords
     ensures values { Values text.now (arrays kinds.now words.now) count place (arrays pkinds.old pwords.old) output.old position (value_in result) result.parts (arrays pkinds.new pwords.new) output.new }
-    ensures value { result ≡ canonical_valued result }
+    ensures canonical { result ≡ canonical_valued result }
 {
     let r = value::value(
         text, kinds, words, count, place, pkinds, pwords, output, position,

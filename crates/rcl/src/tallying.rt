@@ -22,8 +22,8 @@ pub extern "C" fn rcl_lex_tallied(
     swords: &mut [u64],
 ) -> CountedWords
     ensures lexes { Lexes doc text.now (lent kinds.old words.old) (lent skinds.old swords.old) (lexed_in result.lexed) (lent kinds.new words.new) (lent skinds.new swords.new) }
-    ensures result_value { tally_in result ≡ after_call (tally_by accepted refused steps) (lexed_in result.lexed) }
-    ensures lexed_value { result.lexed ≡ canonical_lexed result.lexed }
+    ensures tally { tally_in result ≡ after_call (tally_by accepted refused steps) (lexed_in result.lexed) }
+    ensures canonical { result.lexed ≡ canonical_lexed result.lexed }
 {
     let before = Tally {
         accepted: accepted,

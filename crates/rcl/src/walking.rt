@@ -30,7 +30,7 @@ pub extern "C" fn rcl_walker_step(
     swords: &mut [u64],
 ) -> SteppedWords
     ensures steps_to { StepsTo (walking_told text.now doc position depth (told_by doc kept number low high) (arrays skinds.old swords.old)) result (arrays skinds.new swords.new) }
-    ensures value { result ≡ canonical_stepped result }
+    ensures canonical { result ≡ canonical_stepped result }
 {
     let told = words::told_by(doc, kept, number, low, high);
     let Told::Kept(before) = told else {

@@ -69,8 +69,8 @@ fn with_counts(refusal: RefusalWords, note: NoteWords, r: Lexed) -> LexedWords
 }
 
 pub fn lexed(r: Lexed) -> LexedWords
-    ensures result_value { lexed_in result ≡ lexed_meant r }
-    ensures value { result ≡ canonical_lexed result }
+    ensures meaning { lexed_in result ≡ lexed_meant r }
+    ensures canonical { result ≡ canonical_lexed result }
 {
     let answer = r.answer;
     match answer {
@@ -83,9 +83,9 @@ pub fn lexed(r: Lexed) -> LexedWords
 }
 
 pub fn tidied(r: Tidied) -> TidiedWords
-    ensures lexed_value { lexed_in result.lexed ≡ lexed_meant r.lexed }
-    ensures written_value { result.written ≡ r.written }
-    ensures lexed_value_2 { result.lexed ≡ canonical_lexed result.lexed }
+    ensures lexed { lexed_in result.lexed ≡ lexed_meant r.lexed }
+    ensures written { result.written ≡ r.written }
+    ensures canonical { result.lexed ≡ canonical_lexed result.lexed }
 {
     let of_lexing = r.lexed;
     let w = lexed(of_lexing);
@@ -96,9 +96,9 @@ pub fn tidied(r: Tidied) -> TidiedWords
 }
 
 pub fn counted(r: Counted) -> CountedWords
-    ensures lexed_value { lexed_in result.lexed ≡ lexed_meant r.lexed }
-    ensures result_value { tally_in result ≡ tally_meant r.tally }
-    ensures lexed_value_2 { result.lexed ≡ canonical_lexed result.lexed }
+    ensures lexed { lexed_in result.lexed ≡ lexed_meant r.lexed }
+    ensures tally { tally_in result ≡ tally_meant r.tally }
+    ensures canonical { result.lexed ≡ canonical_lexed result.lexed }
 {
     let of_lexing = r.lexed;
     let after = r.tally;

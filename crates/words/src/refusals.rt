@@ -58,8 +58,8 @@ pub(crate) fn no_note() -> NoteWords
 }
 
 pub(crate) fn note(told: Note) -> NoteWords
-    ensures result_value { note_in result ≡ note_meant told }
-    ensures value { result ≡ canonical_note result }
+    ensures meaning { note_in result ≡ note_meant told }
+    ensures canonical { result ≡ canonical_note result }
 {
     let Note::At(span) = told else {
         return no_note();

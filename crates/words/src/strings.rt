@@ -44,8 +44,8 @@ pub struct ValuedWords {
 }
 
 fn answered(count: u64) -> AnswerWords
-    ensures result_value { answer_in result ≡ given count }
-    ensures value { result ≡ canonical_answer result }
+    ensures meaning { answer_in result ≡ given count }
+    ensures canonical { result ≡ canonical_answer result }
 {
     let none = refusals::no_refusal();
     AnswerWords {
@@ -55,8 +55,8 @@ fn answered(count: u64) -> AnswerWords
 }
 
 fn not_answered(told: Refusal) -> AnswerWords
-    ensures result_value { answer_in result ≡ refusal_alone (refusal_meant told) }
-    ensures value { result ≡ canonical_answer result }
+    ensures meaning { answer_in result ≡ refusal_alone (refusal_meant told) }
+    ensures canonical { result ≡ canonical_answer result }
 {
     let refusal = refusals::refusal(told);
     AnswerWords {
@@ -67,8 +67,8 @@ fn not_answered(told: Refusal) -> AnswerWords
 
 // The scalar value of an escape sequence.
 pub fn decoded(answer: Decoded) -> AnswerWords
-    ensures result_value { answer_in result ≡ without_note (decoded_meant answer) }
-    ensures value { result ≡ canonical_answer result }
+    ensures meaning { answer_in result ≡ without_note (decoded_meant answer) }
+    ensures canonical { result ≡ canonical_answer result }
 {
     match answer {
         Decoded::Scalar(u) => answered(u as u64),
@@ -78,8 +78,8 @@ pub fn decoded(answer: Decoded) -> AnswerWords
 
 // How many bytes of it were written.
 pub fn unescaped(answer: Unescaped) -> AnswerWords
-    ensures result_value { answer_in result ≡ without_note (unescaped_meant answer) }
-    ensures value { result ≡ canonical_answer result }
+    ensures meaning { answer_in result ≡ without_note (unescaped_meant answer) }
+    ensures canonical { result ≡ canonical_answer result }
 {
     match answer {
         Unescaped::Bytes(n) => answered(n as u64),
@@ -89,8 +89,8 @@ pub fn unescaped(answer: Unescaped) -> AnswerWords
 
 // The indent of a parts list.
 pub fn indented(answer: Indented) -> AnswerWords
-    ensures result_value { answer_in result ≡ without_note (indented_meant answer) }
-    ensures value { result ≡ canonical_answer result }
+    ensures meaning { answer_in result ≡ without_note (indented_meant answer) }
+    ensures canonical { result ≡ canonical_answer result }
 {
     match answer {
         Indented::Spaces(n) => answered(n as u64),
@@ -196,8 +196,8 @@ pub fn part(output: u64, start: usize, end: usize) -> Held
 
 // The check of a part: 0 where it passes.
 pub fn handed(checked: Verdict) -> AnswerWords
-    ensures result_value { answer_in result ≡ or_zero (without_note (verdict_meant checked)) }
-    ensures value { result ≡ canonical_answer result }
+    ensures meaning { answer_in result ≡ or_zero (without_note (verdict_meant checked)) }
+    ensures canonical { result ≡ canonical_answer result }
 {
     match checked {
         Verdict::Accepted => answered(0),
