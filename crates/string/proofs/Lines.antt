@@ -1,5 +1,5 @@
 -- Laws of lines and parts: the spaces of a line, what a part that is accepted tells, and the indent from any part on.
-use Prim.Native.Nat.{ℕ, ◌+◌, ◌-◌, ◌<◌, min}
+use Prim.Native.Nat.{ℕ, ◌-◌, ◌<◌, min}
 use Prim.Native.Char.{Char}
 use Prim.Native.String as S
 use native.Mathlib.Omega.{arith}

@@ -67,7 +67,8 @@ unfolding is_capital
 returns-in_default c =
     let ch = c.args.ch in
     let no-capital : is_capital ch ≡ false = elim c.in_default.branch [
-        in_default-via-then-ch-lt65 w ↦ let under : ch < code "A" = omega arith in rw (lt-leb (code "A") ch under) refl
-      | in_default-via-else-ch-lt65+else-ch-lt91 w ↦ let over : code "Z" < ch = omega arith in rw (lt-leb ch (code "Z") over) (and-false (leb (code "A") ch)) ] in
+      | in_default-via-then-ch-lt65 w ↦ let under : ch < code "A" = omega arith in rw (lt-leb (code "A") ch under) refl
+      | in_default-via-else-ch-lt65+else-ch-lt91 w ↦ let over : code "Z" < ch = omega arith in rw (lt-leb ch (code "Z") over) (and-false (leb (code "A") ch))
+    ] in
     c.refused-in_default.ensures
     ∙ sym (single-unknown (span_meant c.args.span) ch (omega arith) (omega arith) (omega arith) (omega arith) (omega arith) (omega arith) (omega arith) (omega arith) (omega arith) (omega arith) no-capital)
