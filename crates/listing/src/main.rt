@@ -1,6 +1,6 @@
 // The listing of standard input. Stored here: document 01's worked text.
 #![tactic(auto)]
 
-fn main() {
-    report::print_listing();
+fn main(rt: HostRuntime) {
+    report::print_listing(&mut rt.stdin(), &mut rt.stdout(), &mut rt.stderr());
 }

@@ -1,6 +1,6 @@
 // The listing of the empty text: marked pair (a).
 #![tactic(auto)]
 
-fn main() {
-    report::print_listing();
+fn main(rt: HostRuntime) {
+    report::print_listing(&mut rt.stdin(), &mut rt.stdout(), &mut rt.stderr());
 }

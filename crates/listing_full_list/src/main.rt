@@ -1,6 +1,6 @@
 // The listing of 1,025 lexemes: refusal 31 at the last.
 #![tactic(auto)]
 
-fn main() {
-    report::print_listing();
+fn main(rt: HostRuntime) {
+    report::print_listing(&mut rt.stdin(), &mut rt.stdout(), &mut rt.stderr());
 }

@@ -1,6 +1,6 @@
 // The listing of a text that is refused with a note: marked pair (i).
 #![tactic(auto)]
 
-fn main() {
-    report::print_listing();
+fn main(rt: HostRuntime) {
+    report::print_listing(&mut rt.stdin(), &mut rt.stdout(), &mut rt.stderr());
 }

@@ -1,6 +1,6 @@
 // The listing of two spaces: one step, and no lexeme.
 #![tactic(auto)]
 
-fn main() {
-    report::print_listing();
+fn main(rt: HostRuntime) {
+    report::print_listing(&mut rt.stdin(), &mut rt.stdout(), &mut rt.stderr());
 }

@@ -1,7 +1,7 @@
-// Standard input.
+// The input.
 ghost use Rattle.report.specs.Within.{Within};
 
-use libc::STDIN_FILENO;
+use std::io::Read;
 
 // What came of reading.
 #[derive(Clone, Copy)]
@@ -14,23 +14,17 @@ pub(crate) enum Input {
     Failed,
 }
 
-// Reads standard input to its end. `io::read_full` stops where a read fails as it does at the end, and a read after that may say that the input has ended (a connection that was reset does), so
-// each answer is looked at here.
-pub(crate) fn read_text(room: &mut [u8]) -> Input
+// Reads the input to its end. A read after one that failed may say that the input has ended (a connection that was reset does), so each answer is looked at here.
+pub(crate) fn read_text<R: Read>(from: &mut R, room: &mut [u8]) -> Input
     ensures { Within result room.new }
 {
     let mut done: usize = 0;
     while done < room.len() {
-        let got = libc::read(STDIN_FILENO, &mut room[done..]);
-        if got == 0 {
-            return Input::Ended(done);
+        match from.read(&mut room[done..]) {
+            Ok(0) => return Input::Ended(done),
+            Ok(more) => done += more,
+            Err(_) => return Input::Failed,
         }
-        // An answer below 0 counts no byte.
-        let more = io::count(got, &room[done..]);
-        if more == 0 {
-            return Input::Failed;
-        }
-        done += more;
     }
     Input::Over
 }

@@ -1,4 +1,4 @@
-// What the programs do: they read a text from standard input, and write its listing, its tidied text, or the refusal's line. A read or write that fails ends them: nothing is written
+// What the programs do: they read a text from a reader, standard input, and write its listing, its tidied text, or the refusal's line. A read or write that fails ends them: nothing is written
 // after it but a line on standard error that says so.
 #![tactic(auto)]
 

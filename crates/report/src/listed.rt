@@ -4,82 +4,98 @@ ghost use Rattle.std.specs.Prelude.{◌≡◌, length};
 use crate::input::Input;
 use crate::{input, print};
 use lexer::Lexed;
-use libc::STDOUT_FILENO;
 use source::{Span, Verdict};
+use std::io;
+use std::io::{Read, Write};
 
-fn print_number(n: u64) -> bool {
-    io::print_decimal(STDOUT_FILENO, n)
+fn print_number<W: Write>(to: &mut W, n: u64) -> io::Result<()> {
+    write!(to, "{n}")
 }
 
 // "Sizes first: bytes, lexemes, deepest, steps, dropped bytes".
-fn print_sizes(bytes: usize, lexed: Lexed) -> bool {
-    print_number(bytes as u64)
-        && printing::print_next(STDOUT_FILENO, lexed.lexemes as u64)
-        && printing::print_next(STDOUT_FILENO, lexed.deepest as u64)
-        && printing::print_next(STDOUT_FILENO, lexed.steps as u64)
-        && printing::print_next(STDOUT_FILENO, lexed.dropped as u64)
-        && print::end_line(STDOUT_FILENO)
+fn print_sizes<W: Write>(to: &mut W, bytes: usize, lexed: Lexed) -> io::Result<()> {
+    print_number(to, bytes as u64)?;
+    printing::print_next(to, lexed.lexemes as u64)?;
+    printing::print_next(to, lexed.deepest as u64)?;
+    printing::print_next(to, lexed.steps as u64)?;
+    printing::print_next(to, lexed.dropped as u64)?;
+    print::end_line(to)
 }
 
 // A space before every entry of a line but the first.
-fn separate(place: usize) -> bool {
-    place == 0 || io::write_all(STDOUT_FILENO, b" ")
+fn separate<W: Write>(to: &mut W, place: usize) -> io::Result<()> {
+    if place == 0 {
+        return Ok(());
+    }
+    to.write_all(b" ")
 }
 
-fn print_kind(place: usize, kind: u8) -> bool {
-    separate(place) && print_number(basics::wide(kind))
+fn print_kind<W: Write>(to: &mut W, place: usize, kind: u8) -> io::Result<()> {
+    separate(to, place)?;
+    print_number(to, basics::wide(kind))
 }
 
 // The kind codes of the first lexemes of a list, on one line.
-fn print_kinds(kinds: &[u8], words: &[u64], lexemes: usize) -> bool {
-    let mut i: usize = 0;
-    while i < lexemes {
+fn print_kinds<W: Write>(
+    to: &mut W,
+    kinds: &[u8],
+    words: &[u64],
+    lexemes: usize,
+) -> io::Result<()> {
+    for i in 0..lexemes {
         let entry = list::get(kinds, words, i);
-        if !print_kind(i, entry.kind) {
-            return false;
-        }
-        i += 1;
+        print_kind(to, i, entry.kind)?;
     }
-    print::end_line(STDOUT_FILENO)
+    print::end_line(to)
 }
 
-fn print_span(place: usize, span: Span) -> bool {
-    separate(place)
-        && print_number(span.start() as u64)
-        && io::write_all(STDOUT_FILENO, b"-")
-        && print_number(span.end() as u64)
+fn print_span<W: Write>(to: &mut W, place: usize, span: Span) -> io::Result<()> {
+    separate(to, place)?;
+    print_number(to, span.start() as u64)?;
+    to.write_all(b"-")?;
+    print_number(to, span.end() as u64)
 }
 
 // The spans of the first lexemes of a list, on one line.
-fn print_spans(kinds: &[u8], words: &[u64], lexemes: usize) -> bool {
-    let mut i: usize = 0;
-    while i < lexemes {
+fn print_spans<W: Write>(
+    to: &mut W,
+    kinds: &[u8],
+    words: &[u64],
+    lexemes: usize,
+) -> io::Result<()> {
+    for i in 0..lexemes {
         let entry = list::get(kinds, words, i);
-        let at = entry.at;
-        if !print_span(i, at) {
-            return false;
-        }
-        i += 1;
+        print_span(to, i, entry.at)?;
     }
-    print::end_line(STDOUT_FILENO)
+    print::end_line(to)
+}
+
+// The sizes, the kind codes and the spans of a list that was made of so many bytes.
+fn print_list<W: Write>(
+    to: &mut W,
+    bytes: usize,
+    lexed: Lexed,
+    kinds: &[u8],
+    words: &[u64],
+) -> io::Result<()> {
+    print_sizes(to, bytes, lexed)?;
+    print_kinds(to, kinds, words, lexed.lexemes)?;
+    print_spans(to, kinds, words, lexed.lexemes)
 }
 
 // Lexes a text into a list of 1,024 places with a stack of 64, and prints what comes of it.
-fn list_text(text: &[u8]) {
+fn list_text<W: Write, E: Write>(text: &[u8], to: &mut W, errors: &mut E) {
     let mut kinds = [0u8; 1024];
     let mut words = [0u64; 2048];
     let mut skinds = [0u8; 64];
     let mut swords = [0u64; 128];
     let lexed = lexer::lex(0, text, &mut kinds, &mut words, &mut skinds, &mut swords);
-    let answer = lexed.answer;
-    match answer {
+    match lexed.answer {
         Verdict::Accepted => {
-            let written = print_sizes(text.len(), lexed)
-                && print_kinds(&kinds, &words, lexed.lexemes)
-                && print_spans(&kinds, &words, lexed.lexemes);
-            print::finish(STDOUT_FILENO, written);
+            let written = print_list(to, text.len(), lexed, &kinds, &words);
+            print::finish(to, errors, written);
         }
-        Verdict::Refused(refusal) => print::refuse(STDOUT_FILENO, refusal),
+        Verdict::Refused(refusal) => print::refuse(to, errors, refusal),
     }
 }
 
@@ -90,13 +106,13 @@ fn room() -> [u8; 4097]
     [0u8; 4097]
 }
 
-// "A listing program reads standard input (over 4,096 bytes: refusal 2; list 1,024 places, stack 64)."
-pub fn print_listing() {
+// "A listing program reads standard input (over 4,096 bytes: refusal 2; list 1,024 places, stack 64)." `from` is standard input, `to` standard output and `errors` standard error.
+pub fn print_listing<R: Read, W: Write, E: Write>(from: &mut R, to: &mut W, errors: &mut E) {
     let mut text = room();
-    let input = input::read_text(&mut text);
+    let input = input::read_text(from, &mut text);
     match input {
-        Input::Ended(n) => list_text(&text[..n]),
-        Input::Over => print::refuse_over(STDOUT_FILENO),
-        Input::Failed => print::tell_unread(),
+        Input::Ended(n) => list_text(&text[..n], to, errors),
+        Input::Over => print::refuse_over(to, errors),
+        Input::Failed => print::tell_unread(errors),
     }
 }

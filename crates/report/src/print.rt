@@ -1,58 +1,69 @@
-// Refusals, written to a descriptor `to`, and what is told where something cannot be read or written. Each function that writes a piece of an answer says whether it could; after one
+// Refusals, written to a writer `to`, and what is told where something cannot be read or written. Each function that writes a piece of an answer says whether it could; after one
 // that could not, nothing more of the answer is written.
-use libc::STDERR_FILENO;
 use rules::refusal;
 use source::{Note, Refusal, Span};
+use std::io;
+use std::io::Write;
 
-pub(crate) fn end_line(to: i32) -> bool {
-    io::write_all(to, b"\n")
+pub(crate) fn end_line<W: Write>(to: &mut W) -> io::Result<()> {
+    to.write_all(b"\n")
 }
 
-fn print_offsets(to: i32, span: Span) -> bool {
-    printing::print_next(to, span.start() as u64) && printing::print_next(to, span.end() as u64)
+fn print_offsets<W: Write>(to: &mut W, span: Span) -> io::Result<()> {
+    printing::print_next(to, span.start() as u64)?;
+    printing::print_next(to, span.end() as u64)
 }
 
-fn print_note(to: i32, note: Note) -> bool {
+fn print_note<W: Write>(to: &mut W, note: Note) -> io::Result<()> {
     let Note::At(opener) = note else {
-        return true;
+        return Ok(());
     };
     print_offsets(to, opener)
 }
 
 // "A refusal prints `refused`, number, start, end, and note start and end if any, on one line with single spaces."
-fn print_refusal(to: i32, refusal: Refusal) -> bool {
-    let at = refusal.at;
-    let note = refusal.note;
-    io::write_all(to, b"refused")
-        && printing::print_next(to, refusal.number as u64)
-        && print_offsets(to, at)
-        && print_note(to, note)
-        && end_line(to)
+fn print_refusal<W: Write>(to: &mut W, refusal: Refusal) -> io::Result<()> {
+    to.write_all(b"refused")?;
+    printing::print_next(to, refusal.number as u64)?;
+    print_offsets(to, refusal.at)?;
+    print_note(to, refusal.note)?;
+    end_line(to)
 }
 
 // A message. Where standard error fails too there is no place left to say so.
-fn tell(message: &[u8]) {
-    io::write_all(STDERR_FILENO, message);
+fn tell<E: Write>(errors: &mut E, message: &[u8]) {
+    let _ = errors.write_all(message);
 }
 
-pub(crate) fn tell_unread() {
-    tell(b"standard input could not be read\n");
+pub(crate) fn tell_unread<E: Write>(errors: &mut E) {
+    tell(errors, b"standard input could not be read\n");
 }
 
-// The end of an answer. A file on another machine may be full and say so only when it is closed.
-pub(crate) fn finish(to: i32, written: bool) {
-    if written && libc::close(to) == 0 {
-        return;
+// What was written, and what a writer may still hold back of it.
+fn flushed<W: Write>(to: &mut W, written: io::Result<()>) -> io::Result<()> {
+    written?;
+    to.flush()
+}
+
+// The end of an answer.
+pub(crate) fn finish<W: Write, E: Write>(to: &mut W, errors: &mut E, written: io::Result<()>) {
+    match flushed(to, written) {
+        Ok(()) => {}
+        Err(_) => tell(errors, b"the answer could not be written\n"),
     }
-    tell(b"the answer could not be written\n");
 }
 
 // The refusal's line, as the whole answer.
-pub(crate) fn refuse(to: i32, refusal: Refusal) {
-    finish(to, print_refusal(to, refusal));
+pub(crate) fn refuse<W: Write, E: Write>(to: &mut W, errors: &mut E, refusal: Refusal) {
+    let written = print_refusal(to, refusal);
+    finish(to, errors, written);
 }
 
 // Of a text over the program's limit: refusal 2, at 0-0.
-pub(crate) fn refuse_over(to: i32) {
-    refuse(to, source::refuse(refusal::TOO_LONG, source::nowhere()));
+pub(crate) fn refuse_over<W: Write, E: Write>(to: &mut W, errors: &mut E) {
+    refuse(
+        to,
+        errors,
+        source::refuse(refusal::TOO_LONG, source::nowhere()),
+    );
 }

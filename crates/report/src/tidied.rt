@@ -1,17 +1,25 @@
-// The tidied text of standard input, with memory for every text of 65,536 bytes: it has at most as many lexemes and openers, and its tidied text less than two bytes for each of its own. So 30, 31 and 46
+// The tidied text of the input, with memory for every text of 65,536 bytes: it has at most as many lexemes and openers, and its tidied text less than two bytes for each of its own. So 30, 31 and 46
 // never come.
 ghost use Rattle.std.specs.Prelude.{◌≡◌, length};
 
 use crate::input::Input;
 use crate::{input, print};
-use libc::STDOUT_FILENO;
 use source::Verdict;
+use std::io;
+use std::io::{ErrorKind, Read, Write};
 
 // Room for the longest text and a byte more, by which a longer one is known. Of this and the rooms below only the length is said, so that nothing computes with so many places.
 fn text_room() -> [u8; 65537]
     ensures { 65537 ≡ length result }
 {
     [0u8; 65537]
+}
+
+// Room for the kinds of 65,536 lexemes.
+fn kinds_room() -> [u8; 65536]
+    ensures { 65536 ≡ length result }
+{
+    [0u8; 65536]
 }
 
 // Room for the spans of 65,536 lexemes.
@@ -28,18 +36,23 @@ fn output_room() -> [u8; 131072]
 }
 
 // The first bytes of an output; none where it has fewer.
-fn print_first(output: &[u8], bytes: usize) -> bool {
+fn print_first<W: Write>(to: &mut W, output: &[u8], bytes: usize) -> io::Result<()> {
     if bytes <= output.len() {
-        return io::write_all(STDOUT_FILENO, &output[..bytes]);
+        return to.write_all(&output[..bytes]);
     }
-    false
+    Err(io::Error::from(ErrorKind::InvalidInput))
 }
 
 // Tidies a text and prints what comes of it.
-fn tidy_text(text: &[u8], refusals: i32) {
-    let mut kinds = io::large_buffer();
+fn tidy_text<W: Write, R: Write, E: Write>(
+    text: &[u8],
+    to: &mut W,
+    refusals: &mut R,
+    errors: &mut E,
+) {
+    let mut kinds = kinds_room();
     let mut words = words_room();
-    let mut skinds = io::large_buffer();
+    let mut skinds = kinds_room();
     let mut swords = words_room();
     let mut output = output_room();
     let tidied = tidy::tidy(
@@ -52,22 +65,27 @@ fn tidy_text(text: &[u8], refusals: i32) {
         &mut output,
     );
     let lexed = tidied.lexed;
-    let answer = lexed.answer;
-    match answer {
+    match lexed.answer {
         Verdict::Accepted => {
-            print::finish(STDOUT_FILENO, print_first(&output, tidied.written));
+            let written = print_first(to, &output, tidied.written);
+            print::finish(to, errors, written);
         }
-        Verdict::Refused(refusal) => print::refuse(refusals, refusal),
+        Verdict::Refused(refusal) => print::refuse(refusals, errors, refusal),
     }
 }
 
-// The tidied text of standard input and nothing after it, on standard output; or the refusal's line, on the descriptor `refusals`.
-pub fn print_tidied(refusals: i32) {
+// The tidied text of what `from`, standard input, gives and nothing after it, to `to`, standard output; or the refusal's line, to `refusals`. `errors` is standard error.
+pub fn print_tidied<I: Read, W: Write, R: Write, E: Write>(
+    from: &mut I,
+    to: &mut W,
+    refusals: &mut R,
+    errors: &mut E,
+) {
     let mut text = text_room();
-    let input = input::read_text(&mut text);
+    let input = input::read_text(from, &mut text);
     match input {
-        Input::Ended(n) => tidy_text(&text[..n], refusals),
-        Input::Over => print::refuse_over(refusals),
-        Input::Failed => print::tell_unread(),
+        Input::Ended(n) => tidy_text(&text[..n], to, refusals, errors),
+        Input::Over => print::refuse_over(refusals, errors),
+        Input::Failed => print::tell_unread(errors),
     }
 }

@@ -1,6 +1,11 @@
 // The tidied text of a protocol: examples/zstack.rcl.
 #![tactic(auto)]
 
-fn main() {
-    report::print_tidied(libc::STDERR_FILENO);
+fn main(rt: HostRuntime) {
+    report::print_tidied(
+        &mut rt.stdin(),
+        &mut rt.stdout(),
+        &mut rt.stderr(),
+        &mut rt.stderr(),
+    );
 }

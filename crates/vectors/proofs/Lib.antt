@@ -1,2 +1,2 @@
--- counts and lengths of lent lists
+-- the lengths of large rooms
 pub mod Lent

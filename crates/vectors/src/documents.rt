@@ -1,7 +1,8 @@
 // Whole documents: `document DOC BYTES`. Each is lexed, and the value of every string in it is read and handed back.
 use crate::lists::{MARK, MARKED};
 use crate::{field, lexes, lists, strings, texts};
-use libc::STDOUT_FILENO;
+use std::io;
+use std::io::Write;
 use value::Answer;
 
 fn is_quote_open(kind: u8) -> bool {
@@ -9,14 +10,15 @@ fn is_quote_open(kind: u8) -> bool {
 }
 
 // The value of the string whose opener stands at a place, and its bytes: ` ; PLACE VALUE BYTES`. The text is read from the line again: a call of `hand` is covered where both slices are locals.
-fn value_at(
+fn value_at<W: Write>(
+    to: &mut W,
     line: &[u8],
     a: usize,
     kinds: &[u8; 168],
     words: &[u64; 336],
     lexemes: usize,
     place: usize,
-) {
+) -> io::Result<()> {
     let mut text = [0u8; 640];
     let n = texts::read_bytes(line, a, &mut text);
     let mut pkinds = [MARK; 48];
@@ -34,31 +36,37 @@ fn value_at(
         0,
     );
     let answer = r.answer;
-    io::write_all(STDOUT_FILENO, b" ;");
-    lists::print(place as u64);
-    io::write_all(STDOUT_FILENO, b" ");
-    strings::print_value(answer);
+    to.write_all(b" ;")?;
+    lists::print(to, place as u64)?;
+    to.write_all(b" ")?;
+    strings::print_value(to, answer)?;
     let Answer::Found(held) = answer else {
-        return;
+        return Ok(());
     };
-    lists::print_bytes(hand::hand(&text[..n], &output, held));
+    lists::print_bytes(to, hand::hand(&text[..n], &output, held))
 }
 
 // Every string of a list, in order.
-fn values(line: &[u8], a: usize, kinds: &[u8; 168], words: &[u64; 336], lexemes: usize) {
-    let mut i: usize = 0;
-    while i < lexemes {
+fn values<W: Write>(
+    to: &mut W,
+    line: &[u8],
+    a: usize,
+    kinds: &[u8; 168],
+    words: &[u64; 336],
+    lexemes: usize,
+) -> io::Result<()> {
+    for i in 0..lexemes {
         if 168 <= i {
-            return;
+            return Ok(());
         }
         if is_quote_open(kinds[i]) {
-            value_at(line, a, kinds, words, lexemes, i);
+            value_at(to, line, a, kinds, words, lexemes, i)?;
         }
-        i += 1;
     }
+    Ok(())
 }
 
-pub(crate) fn document(line: &[u8], a: usize) {
+pub(crate) fn document<W: Write>(to: &mut W, line: &[u8], a: usize) -> io::Result<()> {
     let b = field::next(line, a);
     let mut text = [0u8; 640];
     let n = texts::read_bytes(line, b, &mut text);
@@ -74,6 +82,6 @@ pub(crate) fn document(line: &[u8], a: usize) {
         &mut skinds,
         &mut swords,
     );
-    lexes::print_lexed(r, &kinds, &words, &skinds, &swords);
-    values(line, b, &kinds, &words, r.lexemes);
+    lexes::print_lexed(to, r, &kinds, &words, &skinds, &swords)?;
+    values(to, line, b, &kinds, &words, r.lexemes)
 }

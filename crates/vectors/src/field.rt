@@ -6,28 +6,24 @@ pub(crate) fn line_end(list: &[u8], start: usize) -> usize
     requires { start ≤ length list.now }
     ensures { (start ≤ result) × (result ≤ length list.now) }
 {
-    let mut i = start;
-    while i < list.len() {
+    for i in start..list.len() {
         if list[i] == b'\n' {
             return i;
         }
-        i += 1;
     }
-    i
+    list.len()
 }
 
 // Where the field that begins at `start` ends, before a space.
 pub(crate) fn end_of(line: &[u8], start: usize) -> usize
     ensures { start ≤ result }
 {
-    let mut i = start;
-    while i < line.len() {
+    for i in start..line.len() {
         if line[i] == b' ' {
             return i;
         }
-        i += 1;
     }
-    i
+    basics::greater(start, line.len())
 }
 
 // Where the field begins that follows one which ended at `end`.
@@ -54,7 +50,7 @@ pub(crate) fn is(line: &[u8], start: usize, end: usize, word: &[u8]) -> bool {
     if word.len() != end - start {
         return false;
     }
-    check::same(&line[start..end], word)
+    &line[start..end] == word
 }
 
 // One more decimal digit; a number over 2^64 − 1 does not grow.
@@ -79,13 +75,11 @@ fn shifted(n: u64, b: u8) -> u64 {
 // The number in the field that begins at `start`.
 pub(crate) fn number(line: &[u8], start: usize) -> u64 {
     let mut n: u64 = 0;
-    let mut i = start;
-    while i < line.len() {
+    for i in start..line.len() {
         if line[i] == b' ' {
             return n;
         }
         n = shifted(n, line[i]);
-        i += 1;
     }
     n
 }

@@ -2,8 +2,9 @@
 use crate::lists::{MARK, MARKED, print};
 use crate::{field, lists, texts};
 use lexer::Lexed;
-use libc::STDOUT_FILENO;
 use source::{Note, Span, Verdict};
+use std::io;
+use std::io::Write;
 
 // The lengths of the arrays that a call is lent for its list and its stack.
 #[derive(Clone, Copy)]
@@ -14,36 +15,36 @@ pub struct Lent {
     pub swords: usize,
 }
 
-fn print_span(span: Span) {
-    print(span.low);
-    print(span.high);
+fn print_span<W: Write>(to: &mut W, span: Span) -> io::Result<()> {
+    print(to, span.low)?;
+    print(to, span.high)
 }
 
 // `accepted`, or `refused`, the number, the span, and the note's span if there is one.
-fn print_answer(answer: Verdict) {
+fn print_answer<W: Write>(to: &mut W, answer: Verdict) -> io::Result<()> {
     let Verdict::Refused(refusal) = answer else {
-        io::write_all(STDOUT_FILENO, b"accepted");
-        return;
+        to.write_all(b"accepted")?;
+        return Ok(());
     };
-    io::write_all(STDOUT_FILENO, b"refused");
-    print(refusal.number as u64);
+    to.write_all(b"refused")?;
+    print(to, refusal.number as u64)?;
     let at = refusal.at;
-    print_span(at);
+    print_span(to, at)?;
     let note = refusal.note;
     let Note::At(opener) = note else {
-        return;
+        return Ok(());
     };
-    print_span(opener);
+    print_span(to, opener)
 }
 
-fn print_counts(r: Lexed) {
-    io::write_all(STDOUT_FILENO, b" ;");
-    print(r.lexemes as u64);
-    print(r.steps as u64);
-    print(r.kept as u64);
-    print(r.dropped as u64);
-    print(r.deepest as u64);
-    io::write_all(STDOUT_FILENO, b" ;");
+fn print_counts<W: Write>(to: &mut W, r: Lexed) -> io::Result<()> {
+    to.write_all(b" ;")?;
+    print(to, r.lexemes as u64)?;
+    print(to, r.steps as u64)?;
+    print(to, r.kept as u64)?;
+    print(to, r.dropped as u64)?;
+    print(to, r.deepest as u64)?;
+    to.write_all(b" ;")
 }
 
 // Twice a number of places, which is not large.
@@ -55,26 +56,33 @@ fn twice(n: usize) -> usize {
 }
 
 // The answer and the counts, the list, and how far list and stack were written: of the stack what lies below the deepest nesting is free.
-pub(crate) fn print_lexed(
+pub(crate) fn print_lexed<W: Write>(
+    to: &mut W,
     r: Lexed,
     kinds: &[u8; 168],
     words: &[u64; 336],
     skinds: &[u8; 72],
     swords: &[u64; 144],
-) {
+) -> io::Result<()> {
     let answer = r.answer;
-    print_answer(answer);
-    print_counts(r);
-    lists::print_list(kinds, words, r.lexemes);
-    io::write_all(STDOUT_FILENO, b" ;");
-    print(lists::bytes_end(kinds) as u64);
-    print(lists::words_end(words) as u64);
-    print(basics::greater(lists::bytes_end(skinds), r.deepest) as u64);
-    print(basics::greater(lists::words_end(swords), twice(r.deepest)) as u64);
+    print_answer(to, answer)?;
+    print_counts(to, r)?;
+    lists::print_list(to, kinds, words, r.lexemes)?;
+    to.write_all(b" ;")?;
+    print(to, lists::bytes_end(kinds) as u64)?;
+    print(to, lists::words_end(words) as u64)?;
+    print(
+        to,
+        basics::greater(lists::bytes_end(skinds), r.deepest) as u64,
+    )?;
+    print(
+        to,
+        basics::greater(lists::words_end(swords), twice(r.deepest)) as u64,
+    )
 }
 
 // Lexes into the beginnings of longer arrays.
-fn lex_in(doc: u32, text: &[u8], lent: Lent) {
+fn lex_in<W: Write>(to: &mut W, doc: u32, text: &[u8], lent: Lent) -> io::Result<()> {
     let mut kinds = [MARK; 168];
     let mut words = [MARKED; 336];
     let mut skinds = [MARK; 72];
@@ -91,7 +99,7 @@ fn lex_in(doc: u32, text: &[u8], lent: Lent) {
         &mut skinds[..sk],
         &mut swords[..sw],
     );
-    print_lexed(r, &kinds, &words, &skinds, &swords);
+    print_lexed(to, r, &kinds, &words, &skinds, &swords)
 }
 
 pub(crate) fn doc(line: &[u8], a: usize) -> u32 {
@@ -117,9 +125,9 @@ pub(crate) fn after_lengths(line: &[u8], a: usize) -> usize {
     field::next(line, field::next(line, c))
 }
 
-pub(crate) fn lex(line: &[u8], a: usize) {
+pub(crate) fn lex<W: Write>(to: &mut W, line: &[u8], a: usize) -> io::Result<()> {
     let b = field::next(line, a);
     let mut bytes = [0u8; 256];
     let n = texts::read_bytes(line, after_lengths(line, b), &mut bytes);
-    lex_in(doc(line, a), &bytes[..n], lengths(line, b));
+    lex_in(to, doc(line, a), &bytes[..n], lengths(line, b))
 }

@@ -14,118 +14,120 @@ mod texts;
 mod tidied;
 mod walks;
 
-ghost use Rattle.std.specs.Prelude.{◌≡◌, length};
+ghost use Rattle.std.specs.Prelude.{◌≡◌, ◌≤◌, length, IfOk};
 
-use libc::{STDIN_FILENO, STDOUT_FILENO};
+use std::io;
+use std::io::{BufWriter, Read, Write};
 
 // A line on texts, spans and lexing: whether it was one.
-fn replay_text(line: &[u8], word: usize, rest: usize) -> bool {
+fn replay_text<W: Write>(to: &mut W, line: &[u8], word: usize, rest: usize) -> io::Result<bool> {
     if field::is(line, 0, word, b"utf8") {
-        texts::utf8(line, rest);
-        return true;
+        texts::utf8(to, line, rest)?;
+        return Ok(true);
     }
     if field::is(line, 0, word, b"span") {
-        spans::span(line, rest);
-        return true;
+        spans::span(to, line, rest)?;
+        return Ok(true);
     }
     if field::is(line, 0, word, b"lex") {
-        lexes::lex(line, rest);
-        return true;
+        lexes::lex(to, line, rest)?;
+        return Ok(true);
     }
     if field::is(line, 0, word, b"tally") {
-        tallies::tallied(line, rest);
-        return true;
+        tallies::tallied(to, line, rest)?;
+        return Ok(true);
     }
     if field::is(line, 0, word, b"document") {
-        documents::document(line, rest);
-        return true;
+        documents::document(to, line, rest)?;
+        return Ok(true);
     }
     if field::is(line, 0, word, b"whitespace") {
-        spaces::whitespace(line, rest);
-        return true;
+        spaces::whitespace(to, line, rest)?;
+        return Ok(true);
     }
-    false
+    Ok(false)
 }
 
 // A line on names and escapes: whether it was one.
-fn replay_name(line: &[u8], word: usize, rest: usize) -> bool {
+fn replay_name<W: Write>(to: &mut W, line: &[u8], word: usize, rest: usize) -> io::Result<bool> {
     if field::is(line, 0, word, b"identifier") {
-        strings::identifier(line, rest);
-        return true;
+        strings::identifier(to, line, rest)?;
+        return Ok(true);
     }
     if field::is(line, 0, word, b"keyword") {
-        strings::keyword(line, rest);
-        return true;
+        strings::keyword(to, line, rest)?;
+        return Ok(true);
     }
     if field::is(line, 0, word, b"scalar") {
-        strings::scalar(line, rest);
-        return true;
+        strings::scalar(to, line, rest)?;
+        return Ok(true);
     }
     if field::is(line, 0, word, b"escape") {
-        strings::escape(line, rest);
-        return true;
+        strings::escape(to, line, rest)?;
+        return Ok(true);
     }
-    false
+    Ok(false)
 }
 
 // A line on the parts of strings: whether it was one.
-fn replay_string(line: &[u8], word: usize, rest: usize) -> bool {
+fn replay_string<W: Write>(to: &mut W, line: &[u8], word: usize, rest: usize) -> io::Result<bool> {
     if field::is(line, 0, word, b"indent") {
-        strings::indent(line, rest);
-        return true;
+        strings::indent(to, line, rest)?;
+        return Ok(true);
     }
     if field::is(line, 0, word, b"parts") {
-        strings::parts(line, rest);
-        return true;
+        strings::parts(to, line, rest)?;
+        return Ok(true);
     }
     if field::is(line, 0, word, b"value") {
-        strings::value(line, rest);
-        return true;
+        strings::value(to, line, rest)?;
+        return Ok(true);
     }
-    false
+    Ok(false)
 }
 
 // A line on the tidy writer, handing back and the walker: whether it was one.
-fn replay_tidied(line: &[u8], word: usize, rest: usize) -> bool {
+fn replay_tidied<W: Write>(to: &mut W, line: &[u8], word: usize, rest: usize) -> io::Result<bool> {
     if field::is(line, 0, word, b"tidy") {
-        tidied::tidy(line, rest);
-        return true;
+        tidied::tidy(to, line, rest)?;
+        return Ok(true);
     }
     if field::is(line, 0, word, b"hand") {
-        tidied::hand(line, rest);
-        return true;
+        tidied::hand(to, line, rest)?;
+        return Ok(true);
     }
     if field::is(line, 0, word, b"walk") {
-        walks::walk(line, rest);
-        return true;
+        walks::walk(to, line, rest)?;
+        return Ok(true);
     }
-    false
+    Ok(false)
 }
 
 // One line of the list, without its line end.
-fn replay(line: &[u8]) {
+fn replay<W: Write>(to: &mut W, line: &[u8]) -> io::Result<()> {
     let word = field::end_of(line, 0);
     let rest = field::after(line, word);
-    if !replay_text(line, word, rest) {
-        if !replay_name(line, word, rest) {
-            if !replay_string(line, word, rest) {
-                if !replay_tidied(line, word, rest) {
-                    io::write_all(STDOUT_FILENO, line);
+    if !replay_text(to, line, word, rest)? {
+        if !replay_name(to, line, word, rest)? {
+            if !replay_string(to, line, word, rest)? {
+                if !replay_tidied(to, line, word, rest)? {
+                    to.write_all(line)?;
                 }
             }
         }
     }
-    io::write_all(STDOUT_FILENO, b"\n");
+    to.write_all(b"\n")
 }
 
 // Every line.
-fn replay_all(list: &[u8]) {
+fn replay_all<W: Write>(to: &mut W, list: &[u8]) -> io::Result<()> {
     let mut start = 0;
     while start < list.len() {
         let end = field::line_end(list, start);
-        replay(&list[start..end]);
+        replay(to, &list[start..end])?;
         start = end + 1;
     }
+    Ok(())
 }
 
 // Room for the whole list. Only the length is said, so that nothing computes with so many places.
@@ -135,8 +137,25 @@ fn room() -> [u8; 786432]
     [0u8; 786432]
 }
 
-fn main() {
+// Reads the list to its end, as much of it as there is room for.
+fn read_input<R: Read>(from: &mut R, buffer: &mut [u8]) -> io::Result<usize>
+    ensures { IfOk result (λ n. n ≤ length buffer.new) }
+{
+    let mut done: usize = 0;
+    while done < buffer.len() {
+        let more = from.read(&mut buffer[done..])?;
+        if more == 0 {
+            return Ok(done);
+        }
+        done += more;
+    }
+    Ok(done)
+}
+
+fn main(rt: HostRuntime) -> io::Result<()> {
     let mut buffer = room();
-    let n = io::read_full(STDIN_FILENO, &mut buffer);
-    replay_all(&buffer[..n]);
+    let n = read_input(&mut rt.stdin(), &mut buffer)?;
+    let mut to = BufWriter::new(rt.alloc(), rt.stdout())?;
+    replay_all(&mut to, &buffer[..n])?;
+    to.flush()
 }

@@ -2,8 +2,9 @@
 use crate::lists::{MARK, MARKED};
 use crate::{field, lists, texts};
 use cst::Closer;
-use libc::STDOUT_FILENO;
 use source::{Refusal, Span};
+use std::io;
+use std::io::Write;
 use string::{Decoded, Indented, Unescaped};
 use value::{Answer, Held};
 
@@ -11,43 +12,44 @@ fn kind_code(line: &[u8], a: usize) -> u8 {
     (field::number(line, a) % 256) as u8
 }
 
-fn print_verdict(yes: bool) {
+fn print_verdict<W: Write>(to: &mut W, yes: bool) -> io::Result<()> {
     if yes {
-        io::write_all(STDOUT_FILENO, b"1");
+        to.write_all(b"1")?;
     } else {
-        io::write_all(STDOUT_FILENO, b"0");
+        to.write_all(b"0")?;
     }
+    Ok(())
 }
 
-fn print_given(n: u64) {
-    io::write_all(STDOUT_FILENO, b"given");
-    lists::print(n);
+fn print_given<W: Write>(to: &mut W, n: u64) -> io::Result<()> {
+    to.write_all(b"given")?;
+    lists::print(to, n)
 }
 
-pub(crate) fn print_refused(refusal: Refusal) {
-    io::write_all(STDOUT_FILENO, b"refused");
-    lists::print(refusal.number as u64);
+pub(crate) fn print_refused<W: Write>(to: &mut W, refusal: Refusal) -> io::Result<()> {
+    to.write_all(b"refused")?;
+    lists::print(to, refusal.number as u64)?;
     let at = refusal.at;
-    lists::print(at.low);
-    lists::print(at.high);
+    lists::print(to, at.low)?;
+    lists::print(to, at.high)
 }
 
 // `identifier BYTES`
-pub(crate) fn identifier(line: &[u8], a: usize) {
+pub(crate) fn identifier<W: Write>(to: &mut W, line: &[u8], a: usize) -> io::Result<()> {
     let mut bytes = [0u8; 256];
     let n = texts::read_bytes(line, a, &mut bytes);
-    print_verdict(string::is_identifier(&bytes[..n]));
+    print_verdict(to, string::is_identifier(&bytes[..n]))
 }
 
 // `keyword BYTES`
-pub(crate) fn keyword(line: &[u8], a: usize) {
+pub(crate) fn keyword<W: Write>(to: &mut W, line: &[u8], a: usize) -> io::Result<()> {
     let mut bytes = [0u8; 256];
     let n = texts::read_bytes(line, a, &mut bytes);
-    print_verdict(sublexers::is_keyword(&bytes[..n]));
+    print_verdict(to, sublexers::is_keyword(&bytes[..n]))
 }
 
 // `scalar LOW HIGH KIND BYTES`
-pub(crate) fn scalar(line: &[u8], a: usize) {
+pub(crate) fn scalar<W: Write>(to: &mut W, line: &[u8], a: usize) -> io::Result<()> {
     let b = field::next(line, a);
     let c = field::next(line, b);
     let mut bytes = [0u8; 256];
@@ -58,26 +60,26 @@ pub(crate) fn scalar(line: &[u8], a: usize) {
     };
     let answer = string::scalar_value(&bytes[..n], span, kind_code(line, c));
     match answer {
-        Decoded::Scalar(u) => print_given(u as u64),
-        Decoded::Refused(refusal) => print_refused(refusal),
+        Decoded::Scalar(u) => print_given(to, u as u64),
+        Decoded::Refused(refusal) => print_refused(to, refusal),
     }
 }
 
-fn print_unescaped(answer: Unescaped) {
+fn print_unescaped<W: Write>(to: &mut W, answer: Unescaped) -> io::Result<()> {
     match answer {
-        Unescaped::Bytes(n) => print_given(n as u64),
-        Unescaped::Refused(refusal) => print_refused(refusal),
+        Unescaped::Bytes(n) => print_given(to, n as u64)?,
+        Unescaped::Refused(refusal) => print_refused(to, refusal)?,
     }
-    io::write_all(STDOUT_FILENO, b" ;");
+    to.write_all(b" ;")
 }
 
 // The lent part of an output.
-fn print_output(bytes: &[u8; 72], places: usize) {
-    lists::print_first(bytes, places);
+fn print_output<W: Write>(to: &mut W, bytes: &[u8; 72], places: usize) -> io::Result<()> {
+    lists::print_first(to, bytes, places)
 }
 
 // `escape LOW HIGH KIND OUTPUT POSITION BYTES`
-pub(crate) fn escape(line: &[u8], a: usize) {
+pub(crate) fn escape<W: Write>(to: &mut W, line: &[u8], a: usize) -> io::Result<()> {
     let b = field::next(line, a);
     let c = field::next(line, b);
     let d = field::next(line, c);
@@ -97,12 +99,12 @@ pub(crate) fn escape(line: &[u8], a: usize) {
         &mut output[..places],
         field::size(line, e),
     );
-    print_unescaped(answer);
-    print_output(&output, field::size(line, d));
+    print_unescaped(to, answer)?;
+    print_output(to, &output, field::size(line, d))
 }
 
 // `indent KINDS WORDS COUNT BYTES LIST`
-pub(crate) fn indent(line: &[u8], a: usize) {
+pub(crate) fn indent<W: Write>(to: &mut W, line: &[u8], a: usize) -> io::Result<()> {
     let b = field::next(line, a);
     let c = field::next(line, b);
     let d = field::next(line, c);
@@ -120,8 +122,8 @@ pub(crate) fn indent(line: &[u8], a: usize) {
         field::size(line, c),
     );
     match answer {
-        Indented::Spaces(spaces) => print_given(spaces as u64),
-        Indented::Refused(refusal) => print_refused(refusal),
+        Indented::Spaces(spaces) => print_given(to, spaces as u64),
+        Indented::Refused(refusal) => print_refused(to, refusal),
     }
 }
 
@@ -161,25 +163,30 @@ fn after_given(line: &[u8], a: usize) -> usize {
 }
 
 // How many parts were put, the parts, and how far the arrays were written.
-fn print_parts(parts: usize, kinds: &[u8; 48], words: &[u64; 96]) {
-    io::write_all(STDOUT_FILENO, b" ;");
-    lists::print(parts as u64);
-    io::write_all(STDOUT_FILENO, b" ;");
-    lists::print_list(kinds, words, parts);
-    io::write_all(STDOUT_FILENO, b" ;");
-    lists::print(lists::bytes_end(kinds) as u64);
-    lists::print(lists::words_end(words) as u64);
+fn print_parts<W: Write>(
+    to: &mut W,
+    parts: usize,
+    kinds: &[u8; 48],
+    words: &[u64; 96],
+) -> io::Result<()> {
+    to.write_all(b" ;")?;
+    lists::print(to, parts as u64)?;
+    to.write_all(b" ;")?;
+    lists::print_list(to, kinds, words, parts)?;
+    to.write_all(b" ;")?;
+    lists::print(to, lists::bytes_end(kinds) as u64)?;
+    lists::print(to, lists::words_end(words) as u64)
 }
 
-fn print_closer(closer: Closer) {
+fn print_closer<W: Write>(to: &mut W, closer: Closer) -> io::Result<()> {
     match closer {
-        Closer::At(place) => print_given(place as u64),
-        Closer::Refused(refusal) => print_refused(refusal),
+        Closer::At(place) => print_given(to, place as u64),
+        Closer::Refused(refusal) => print_refused(to, refusal),
     }
 }
 
 // `parts KINDS WORDS COUNT PLACE PKINDS PWORDS LIST`
-pub(crate) fn parts(line: &[u8], a: usize) {
+pub(crate) fn parts<W: Write>(to: &mut W, line: &[u8], a: usize) -> io::Result<()> {
     let given = read_given(line, a);
     let mut kinds = [MARK; 48];
     let mut words = [MARKED; 96];
@@ -199,42 +206,43 @@ pub(crate) fn parts(line: &[u8], a: usize) {
         &mut pwords[..pw],
     );
     let closer = r.answer;
-    print_closer(closer);
-    print_parts(r.parts, &pkinds, &pwords);
+    print_closer(to, closer)?;
+    print_parts(to, r.parts, &pkinds, &pwords)
 }
 
 // Where a value stands: `text START END` or `output START END`.
-fn print_where(held: Held) {
+fn print_where<W: Write>(to: &mut W, held: Held) -> io::Result<()> {
     match held {
         Held::Text(start, end) => {
-            io::write_all(STDOUT_FILENO, b"text");
-            lists::print(start as u64);
-            lists::print(end as u64);
+            to.write_all(b"text")?;
+            lists::print(to, start as u64)?;
+            lists::print(to, end as u64)
         }
         Held::Output(start, end) => {
-            io::write_all(STDOUT_FILENO, b"output");
-            lists::print(start as u64);
-            lists::print(end as u64);
+            to.write_all(b"output")?;
+            lists::print(to, start as u64)?;
+            lists::print(to, end as u64)
         }
     }
 }
 
-pub(crate) fn print_value(answer: Answer) {
+pub(crate) fn print_value<W: Write>(to: &mut W, answer: Answer) -> io::Result<()> {
     match answer {
-        Answer::Found(held) => print_where(held),
-        Answer::Refused(refusal) => print_refused(refusal),
+        Answer::Found(held) => print_where(to, held),
+        Answer::Refused(refusal) => print_refused(to, refusal),
     }
 }
 
 // The value of a string in a text and its list, in an output of so many places.
-fn value_in(
+fn value_in<W: Write>(
+    to: &mut W,
     text: &[u8],
     kinds: &[u8],
     words: &[u64],
     given: Given,
     output: usize,
     position: usize,
-) {
+) -> io::Result<()> {
     let mut pkinds = [MARK; 48];
     let mut pwords = [MARKED; 96];
     let mut bytes = [MARK; 72];
@@ -253,14 +261,14 @@ fn value_in(
         position,
     );
     let answer = r.answer;
-    print_value(answer);
-    print_parts(r.parts, &pkinds, &pwords);
-    io::write_all(STDOUT_FILENO, b" ;");
-    print_output(&bytes, output);
+    print_value(to, answer)?;
+    print_parts(to, r.parts, &pkinds, &pwords)?;
+    to.write_all(b" ;")?;
+    print_output(to, &bytes, output)
 }
 
 // `value KINDS WORDS COUNT PLACE PKINDS PWORDS OUTPUT POSITION BYTES LIST`
-pub(crate) fn value(line: &[u8], a: usize) {
+pub(crate) fn value<W: Write>(to: &mut W, line: &[u8], a: usize) -> io::Result<()> {
     let given = read_given(line, a);
     let g = after_given(line, a);
     let h = field::next(line, g);
@@ -273,11 +281,12 @@ pub(crate) fn value(line: &[u8], a: usize) {
     let k = lists::bytes_of(&kinds, given.kinds);
     let w = lists::words_of(&words, given.words);
     value_in(
+        to,
         &bytes[..n],
         &kinds[..k],
         &words[..w],
         given,
         field::size(line, g),
         field::size(line, h),
-    );
+    )
 }

@@ -2,18 +2,19 @@
 use crate::lexes::Lent;
 use crate::lists::{MARK, MARKED};
 use crate::{field, lexes, lists, texts};
-use libc::STDOUT_FILENO;
+use std::io;
+use std::io::Write;
 use tally::Tally;
 
-fn print_tally(t: Tally) {
-    io::write_all(STDOUT_FILENO, b" ;");
-    lists::print(t.accepted);
-    lists::print(t.refused);
-    lists::print(t.steps);
+fn print_tally<W: Write>(to: &mut W, t: Tally) -> io::Result<()> {
+    to.write_all(b" ;")?;
+    lists::print(to, t.accepted)?;
+    lists::print(to, t.refused)?;
+    lists::print(to, t.steps)
 }
 
 // Lexes into the beginnings of longer arrays, and counts it.
-fn lex_in(t: Tally, doc: u32, text: &[u8], lent: Lent) {
+fn lex_in<W: Write>(to: &mut W, t: Tally, doc: u32, text: &[u8], lent: Lent) -> io::Result<()> {
     let mut kinds = [MARK; 168];
     let mut words = [MARKED; 336];
     let mut skinds = [MARK; 72];
@@ -33,8 +34,8 @@ fn lex_in(t: Tally, doc: u32, text: &[u8], lent: Lent) {
     );
     let lexed = r.lexed;
     let after = r.tally;
-    lexes::print_lexed(lexed, &kinds, &words, &skinds, &swords);
-    print_tally(after);
+    lexes::print_lexed(to, lexed, &kinds, &words, &skinds, &swords)?;
+    print_tally(to, after)
 }
 
 // The tally in the three fields that begin at `a`.
@@ -48,16 +49,17 @@ fn before(line: &[u8], a: usize) -> Tally {
     }
 }
 
-pub(crate) fn tallied(line: &[u8], a: usize) {
+pub(crate) fn tallied<W: Write>(to: &mut W, line: &[u8], a: usize) -> io::Result<()> {
     let b = field::next(line, field::next(line, a));
     let d = field::next(line, b);
     let e = field::next(line, d);
     let mut bytes = [0u8; 256];
     let n = texts::read_bytes(line, lexes::after_lengths(line, e), &mut bytes);
     lex_in(
+        to,
         before(line, a),
         lexes::doc(line, d),
         &bytes[..n],
         lexes::lengths(line, e),
-    );
+    )
 }

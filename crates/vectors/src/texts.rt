@@ -1,8 +1,9 @@
 // Texts in hexadecimal, and the UTF-8 check.
-ghost use Rattle.std.specs.Prelude.{◌≤◌};
-ghost use Rattle.io.specs.Counts.{IsPrefixLen};
+ghost use Rattle.std.specs.Prelude.{◌≡◌, ◌≤◌, length, take};
 
-use libc::STDOUT_FILENO;
+use crate::lists;
+use std::io;
+use std::io::Write;
 use utf8::Checked;
 
 // The value of a hexadecimal digit in lower case, 16 for any other byte.
@@ -39,12 +40,12 @@ fn pair(high: u8, low: u8) -> u8 {
 
 // Writes the bytes of the field that begins at `start`, as many as there is room for, and says how many: none of `-`.
 pub(crate) fn read_bytes(line: &[u8], start: usize, bytes: &mut [u8]) -> usize
-    ensures { IsPrefixLen result bytes.new }
+    ensures bound { result ≤ length bytes.new }
+    ensures len { result ≡ length (take result bytes.new) }
 {
-    let mut n = 0;
     let mut i = start;
-    while i < line.len() {
-        if bytes.len() <= n {
+    for n in 0..bytes.len() {
+        if line.len() <= i {
             return n;
         }
         if line.len() - i < 2 {
@@ -54,23 +55,18 @@ pub(crate) fn read_bytes(line: &[u8], start: usize, bytes: &mut [u8]) -> usize
             return n;
         }
         bytes[n] = pair(line[i], line[i + 1]);
-        n += 1;
         i += 2;
     }
-    n
+    bytes.len()
 }
 
 // `utf8 BYTES`: `ok`, or where the first bad sequence begins.
-pub(crate) fn utf8(line: &[u8], start: usize) {
+pub(crate) fn utf8<W: Write>(to: &mut W, line: &[u8], start: usize) -> io::Result<()> {
     let mut bytes = [0u8; 256];
     let n = read_bytes(line, start, &mut bytes);
     let checked = utf8::check(&bytes[..n]);
     match checked {
-        Checked::Valid => {
-            io::write_all(STDOUT_FILENO, b"ok");
-        }
-        Checked::BadAt(at) => {
-            io::print_decimal(STDOUT_FILENO, at as u64);
-        }
+        Checked::Valid => to.write_all(b"ok"),
+        Checked::BadAt(at) => lists::print_number(to, at as u64),
     }
 }

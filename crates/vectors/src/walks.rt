@@ -2,92 +2,109 @@
 use crate::lists::{MARK, MARKED};
 use crate::{field, lexes, lists, strings, texts};
 use lexer::{StepAnswer, Stepped, TokenAt};
-use libc::STDOUT_FILENO;
 use source::{Note, Refusal};
+use std::io;
+use std::io::Write;
 use walker::Kept;
 
-fn print_lexeme(lexeme: TokenAt) {
+fn print_lexeme<W: Write>(to: &mut W, lexeme: TokenAt) -> io::Result<()> {
     let at = lexeme.at;
-    io::write_all(STDOUT_FILENO, b"lexeme");
-    lists::print(basics::wide(lexeme.kind));
-    lists::print(at.low);
-    lists::print(at.high);
+    to.write_all(b"lexeme")?;
+    lists::print(to, basics::wide(lexeme.kind))?;
+    lists::print(to, at.low)?;
+    lists::print(to, at.high)
 }
 
-fn print_ended() {
-    io::write_all(STDOUT_FILENO, b"ended");
+fn print_ended<W: Write>(to: &mut W) -> io::Result<()> {
+    to.write_all(b"ended")
 }
 
-fn print_noted(refusal: Refusal) {
-    strings::print_refused(refusal);
+fn print_noted<W: Write>(to: &mut W, refusal: Refusal) -> io::Result<()> {
+    strings::print_refused(to, refusal)?;
     let note = refusal.note;
     let Note::At(opener) = note else {
-        return;
+        return Ok(());
     };
-    lists::print(opener.low);
-    lists::print(opener.high);
+    lists::print(to, opener.low)?;
+    lists::print(to, opener.high)
 }
 
-fn print_answer(answer: StepAnswer) {
+fn print_answer<W: Write>(to: &mut W, answer: StepAnswer) -> io::Result<()> {
     match answer {
-        StepAnswer::Lexeme(lexeme) => print_lexeme(lexeme),
-        StepAnswer::Ended => print_ended(),
-        StepAnswer::Refused(refusal) => print_noted(refusal),
+        StepAnswer::Lexeme(lexeme) => print_lexeme(to, lexeme),
+        StepAnswer::Ended => print_ended(to),
+        StepAnswer::Refused(refusal) => print_noted(to, refusal),
     }
 }
 
-fn print_step(stepped: Stepped) {
+fn print_step<W: Write>(to: &mut W, stepped: Stepped) -> io::Result<()> {
     let answer = stepped.answer;
-    print_answer(answer);
-    lists::print(stepped.position as u64);
-    lists::print(stepped.depth as u64);
+    print_answer(to, answer)?;
+    lists::print(to, stepped.position as u64)?;
+    lists::print(to, stepped.depth as u64)
 }
 
 // So many steps of a text from its opening, with a stack.
-fn walk_steps(
+fn walk_steps<W: Write>(
+    to: &mut W,
     doc: u32,
     text: &[u8],
     kept: Kept,
     skinds: &mut [u8],
     swords: &mut [u64],
     steps: usize,
-) {
+) -> io::Result<()> {
     let mut position: usize = 0;
     let mut depth: usize = 0;
-    let mut i: usize = 0;
-    while i < steps {
+    for i in 0..steps {
         if 0 < i {
-            io::write_all(STDOUT_FILENO, b" ; ");
+            to.write_all(b" ; ")?;
         }
         let stepped = walker::step_from(doc, text, position, depth, kept, skinds, swords);
-        print_step(stepped);
+        print_step(to, stepped)?;
         position = stepped.position;
         depth = stepped.depth;
-        i += 1;
     }
+    Ok(())
 }
 
 // The stack after the steps: its openers, and how far its arrays were written.
-fn print_stack(skinds: &[u8; 72], swords: &[u64; 144]) {
+fn print_stack<W: Write>(to: &mut W, skinds: &[u8; 72], swords: &[u64; 144]) -> io::Result<()> {
     let end = lists::bytes_end(skinds);
-    io::write_all(STDOUT_FILENO, b" ;");
-    lists::print_list(skinds, swords, end);
-    io::write_all(STDOUT_FILENO, b" ;");
-    lists::print(end as u64);
-    lists::print(lists::words_end(swords) as u64);
+    to.write_all(b" ;")?;
+    lists::print_list(to, skinds, swords, end)?;
+    to.write_all(b" ;")?;
+    lists::print(to, end as u64)?;
+    lists::print(to, lists::words_end(swords) as u64)
 }
 
 // The same with the beginnings of longer arrays for the stack.
-fn walk_in(doc: u32, text: &[u8], kept: Kept, kinds: usize, words: usize, steps: usize) {
+fn walk_in<W: Write>(
+    to: &mut W,
+    doc: u32,
+    text: &[u8],
+    kept: Kept,
+    kinds: usize,
+    words: usize,
+    steps: usize,
+) -> io::Result<()> {
     let mut skinds = [MARK; 72];
     let mut swords = [MARKED; 144];
     let sk = lists::bytes_of(&skinds, kinds);
     let sw = lists::words_of(&swords, words);
-    walk_steps(doc, text, kept, &mut skinds[..sk], &mut swords[..sw], steps);
-    print_stack(&skinds, &swords);
+    walk_steps(
+        to,
+        doc,
+        text,
+        kept,
+        &mut skinds[..sk],
+        &mut swords[..sw],
+        steps,
+    )?;
+    print_stack(to, &skinds, &swords)
 }
 
-pub(crate) fn walk(line: &[u8], a: usize) {
+pub(crate) fn walk<W: Write>(to: &mut W, line: &[u8], a: usize) -> io::Result<()> {
     let b = field::next(line, a);
     let c = field::next(line, b);
     let d = field::next(line, c);
@@ -96,11 +113,12 @@ pub(crate) fn walk(line: &[u8], a: usize) {
     let n = texts::read_bytes(line, field::next(line, d), &mut bytes);
     let kept = walker::open_from(doc, &bytes[..n]);
     walk_in(
+        to,
         doc,
         &bytes[..n],
         kept,
         field::size(line, b),
         field::size(line, c),
         field::size(line, d),
-    );
+    )
 }
