@@ -103,8 +103,9 @@ returns-then-first-byte_at c =
     let a = c.args in
     let inner : inside_by a.stop a.triple (a.first ∷ drop (a.at + 1) a.text.now) ≡ inner_by a.stop (a.first ∷ drop (a.at + 1) a.text.now) =
     elim c.if-first-eq34.branch [
-        then-first-eq34+else-closes_string w ↦ rw (at-quote a.text.now a.at a.first _ refl a.stop a.triple w.if-first-eq34.true, sym w.closes_string.ensures ∙ w.if-closes_string.false) refl
-      | else-first-eq34+else-first-stop w ↦ rw (at_other a.text.now a.at a.first _ refl a.stop a.triple c.if-first-eq92.false w.if-first-eq34.false, ne_eqb a.first a.stop w.if-first-stop.false) refl ] in
+      | then-first-eq34+else-closes_string w ↦ rw (at-quote a.text.now a.at a.first _ refl a.stop a.triple w.if-first-eq34.true, sym w.closes_string.ensures ∙ w.if-closes_string.false) refl
+      | else-first-eq34+else-first-stop w ↦ rw (at_other a.text.now a.at a.first _ refl a.stop a.triple c.if-first-eq92.false w.if-first-eq34.false, ne_eqb a.first a.stop w.if-first-stop.false) refl
+    ] in
     rw (
       lt-leb last_position _ c.if-at-ge-LAST.false,
       inner,
@@ -131,8 +132,9 @@ returns c =
     let a = c.args in
     let inner : inside_by a.stop a.triple (a.first ∷ drop (a.at + 1) a.text.now) ≡ inner_by a.stop (a.first ∷ drop (a.at + 1) a.text.now) =
     elim c.if-first-eq34.branch [
-        then-first-eq34+else-closes_string w ↦ rw (at-quote a.text.now a.at a.first _ refl a.stop a.triple w.if-first-eq34.true, sym w.closes_string.ensures ∙ w.if-closes_string.false) refl
-      | else-first-eq34+else-first-stop w ↦ rw (at_other a.text.now a.at a.first _ refl a.stop a.triple c.if-first-eq92.false w.if-first-eq34.false, ne_eqb a.first a.stop w.if-first-stop.false) refl ] in
+      | then-first-eq34+else-closes_string w ↦ rw (at-quote a.text.now a.at a.first _ refl a.stop a.triple w.if-first-eq34.true, sym w.closes_string.ensures ∙ w.if-closes_string.false) refl
+      | else-first-eq34+else-first-stop w ↦ rw (at_other a.text.now a.at a.first _ refl a.stop a.triple c.if-first-eq92.false w.if-first-eq34.false, ne_eqb a.first a.stop w.if-first-stop.false) refl
+    ] in
     rw (
       lt-leb last_position _ c.if-at-ge-LAST.false,
       inner,

@@ -29,16 +29,18 @@ pub returns-in_default : goal.returns-in_default
 returns-in_default c =
     let no-prefix : number (drop c.args.at c.args.text.now) ≡ decimal (drop c.args.at c.args.text.now) = rw number_at
     (elim c.if-byte_at-eq48.branch [
-        then-byte_at-eq48+else-p-eq98+else-p-eq120 w ↦ rw (← c.byte_at.ensures, w.if-byte_at-eq48.true, ← w.byte_at-p.ensures, ne_eqb _ 98 w.if-p-eq98.false, ne_eqb _ 120 w.if-p-eq120.false) refl
-      | else-byte_at-eq48 w ↦ rw (← c.byte_at.ensures, ne_eqb _ 48 w.if-byte_at-eq48.false) refl ]) in
+      | then-byte_at-eq48+else-p-eq98+else-p-eq120 w ↦ rw (← c.byte_at.ensures, w.if-byte_at-eq48.true, ← w.byte_at-p.ensures, ne_eqb _ 98 w.if-p-eq98.false, ne_eqb _ 120 w.if-p-eq120.false) refl
+      | else-byte_at-eq48 w ↦ rw (← c.byte_at.ensures, ne_eqb _ 48 w.if-byte_at-eq48.false) refl
+    ]) in
     rw (no-prefix, decimal-at, ← c.int_end-m.ensures, ← c.fraction_at-f.ensures, c.in_default.is) refl
 
 pub returns : goal.returns
 returns c =
     let no-prefix : number (drop c.args.at c.args.text.now) ≡ decimal (drop c.args.at c.args.text.now) = rw number_at
     (elim c.if-byte_at-eq48.branch [
-        then-byte_at-eq48+else-p-eq98+else-p-eq120 w ↦ rw (← c.byte_at.ensures, w.if-byte_at-eq48.true, ← w.byte_at-p.ensures, ne_eqb _ 98 w.if-p-eq98.false, ne_eqb _ 120 w.if-p-eq120.false) refl
-      | else-byte_at-eq48 w ↦ rw (← c.byte_at.ensures, ne_eqb _ 48 w.if-byte_at-eq48.false) refl ]) in
+      | then-byte_at-eq48+else-p-eq98+else-p-eq120 w ↦ rw (← c.byte_at.ensures, w.if-byte_at-eq48.true, ← w.byte_at-p.ensures, ne_eqb _ 98 w.if-p-eq98.false, ne_eqb _ 120 w.if-p-eq120.false) refl
+      | else-byte_at-eq48 w ↦ rw (← c.byte_at.ensures, ne_eqb _ 48 w.if-byte_at-eq48.false) refl
+    ]) in
     let t = c.args.text.now in
     let m = c.int_end-m.result in
     let fraction = found-means m (fraction_alone (drop m t)) _ _ c.in-Found.is c.fraction_at-f.ensures in
