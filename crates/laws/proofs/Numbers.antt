@@ -1,7 +1,7 @@
 -- Numbers. `-alone`: a number that ends in `w` is found again where the text ends with `w`; `-extended`: the end or whitespace after `w` changes nothing; `-least`: so many bytes at least.
 use Prim.Native.Nat.{ℕ, suc, ◌+◌, ◌≤◌, ◌<◌}
 use mathlib.Core.Path.{◌≡◌, refl, sym, ap, ◌∙◌}
-use mathlib.Core.List.{List, [], ◌∷◌, ◌++◌}
+use mathlib.Core.List.{List, ◌++◌}
 use mathlib.Core.Bool.{Bool, true, false, cond, ◌||◌, or-true}
 use native.Mathlib.Omega.{arith}
 use lib.Dec.{eqb}

@@ -1,5 +1,5 @@
 -- "One step of the lexer": a function of the innermost opener's code and the text that is left.
-use Rattle.std.specs.Prelude.{ℕ, zero, suc, ◌+◌, List, Bool, true, false, cond, not, ◌&&◌, ◌||◌, leb, eqb, take, drop, get_or}
+use Rattle.std.specs.Prelude.{ℕ, zero, suc, ◌+◌, List, Bool, cond, not, ◌&&◌, ◌||◌, leb, eqb, take, drop, get_or}
 use Rattle.rules.specs.Text.{is, begins, same, starts, run, count}
 use Rattle.rules.specs.Bytes.{is_whitespace, is_control, is_digit, is_letter, is_punctuation, is_over127, is_identifier_byte, is_hex_digit, is_binary_digit, is_not_lf}
 use Rattle.rules.specs.Utf8.{is_tail}

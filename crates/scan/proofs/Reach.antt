@@ -7,7 +7,7 @@ use native.Mathlib.Decide.{dec_lt}
 use native.Mathlib.Omega.{arith}
 use lib.ListN.{length, drop, get_or}
 use lib.Seq.{drop-drop}
-use Rattle.rules.specs.Text.{is, run}
+use Rattle.rules.specs.Text.{run}
 use Rattle.rules.proofs.Runs.{run_more, run-stop, run-done, run_wider, run_drop}
 use Rattle.scan.specs.Reach.{Reach, Stops}
 

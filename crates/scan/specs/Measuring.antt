@@ -1,5 +1,5 @@
 -- One pass over a run of whitespace: what was looked at, and what is measured so far.
-use Rattle.std.specs.Prelude.{ℕ, suc, ◌+◌, ◌-◌, ◌≤◌, ◌<◌, ◌^◌, min, ◌≡◌, true, false, cond, List, ◌⊎◌, ltb, length, drop, get_or}
+use Rattle.std.specs.Prelude.{ℕ, suc, ◌+◌, ◌-◌, ◌≤◌, ◌<◌, ◌^◌, min, ◌≡◌, false, cond, List, ◌⊎◌, ltb, length, drop, get_or}
 use Prim.Native.Char.{code}
 use Rattle.rules.specs.Text.{is, run}
 use Rattle.rules.specs.Bytes.{is_whitespace}

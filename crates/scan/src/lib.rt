@@ -120,6 +120,7 @@ fn line_first(text: &[u8], at: usize) -> usize
 }
 
 // The end of a line byte by byte: for the last bytes of a text.
+#[tactic(auto, using(crate::proofs::Reach::stay, crate::proofs::Reach::more, crate::proofs::Reach::stop, crate::proofs::Reach::done), unfolding(rules::specs::Bytes::is_not_lf))]
 fn line_bytes(text: &[u8], at: usize) -> usize
     ensures { result ≡ at + run is_not_lf (drop at text.now) }
 {

@@ -40,8 +40,8 @@ module _ {t : List ℕ} {at end i : ℕ} where
   back_more h e x = record { up = omega arith; most = omega arith; same = x.same ∙ rw (last t at i h, e) }
 
   -- the byte before is no dash
-  pub back-stop : at < i → (get_or t (i - 1) 0 ≡ code "-" → ⊥) → Back t at end i → i ≡ at + give_back (drop at t) (end - at)
-  back-stop h e x = rw (x.same, last t at i h, ne_eqb _ _ e) (omega arith)
+  pub back_stop : at < i → (get_or t (i - 1) 0 ≡ code "-" → ⊥) → Back t at end i → i ≡ at + give_back (drop at t) (end - at)
+  back_stop h e x = rw (x.same, last t at i h, ne_eqb _ _ e) (omega arith)
 
   -- no byte is left
   pub back_done : i ≤ at → Back t at end i → i ≡ at + give_back (drop at t) (end - at)

@@ -38,11 +38,11 @@ module _ (t : List ℕ) (at first : ℕ) where
   pub is_f : is "f" first && ltb at (length t) ≡ true → is "f" first ≡ true
   is_f e = decide (is "f" first) (λ f. f) (λ f. absurd (false≢true (rw f at e)))
 
-  pub has-next : is "f" first && ltb at (length t) ≡ true → at < length t
-  has-next e = ltb-true at (length t) (rw (is_f e) at e)
+  pub has_next : is "f" first && ltb at (length t) ≡ true → at < length t
+  has_next e = ltb-true at (length t) (rw (is_f e) at e)
 
-  pub no-next : is "f" first && ltb at (length t) ≡ false → is "f" first && is "\"" (get_or t (at + 1) 0) ≡ false
-  no-next e = decide (is "f" first)
+  pub no_next : is "f" first && ltb at (length t) ≡ false → is "f" first && is "\"" (get_or t (at + 1) 0) ≡ false
+  no_next e = decide (is "f" first)
       (λ f. decide (is "\"" (get_or t (at + 1) 0))
       (λ q. absurd (omega (arith, ltb-false at (length t) (rw f at e), passes-inside (is "\"") t (at + 1) refl q)))
       (λ q. rw (f, q) refl))

@@ -84,8 +84,8 @@ eqb-plus n x y = decide (eqb x y)
 pub not-zero-inside : (t : List ℕ) (at : ℕ) {b : ℕ} → get_or t at 0 ≡ b → 0 < b → at < length t
 not-zero-inside t at e h = passes-inside (λ x. not (eqb x 0)) t at refl (ap not (ne_eqb (get_or t at 0) 0 (λ (z : get_or t at 0 ≡ 0). omega (arith, e, z))))
 
-pub some-inside : (t : List ℕ) (at : ℕ) {b : ℕ} → get_or t at 0 ≡ suc b → at < length t
-some-inside t at e = not-zero-inside t at e (omega arith)
+pub some_inside : (t : List ℕ) (at : ℕ) {b : ℕ} → get_or t at 0 ≡ suc b → at < length t
+some_inside t at e = not-zero-inside t at e (omega arith)
 
 digit-zero : is_digit 0 ≡ false
 unfolding is_digit

@@ -41,6 +41,7 @@ fn ident_end(table: &[u8; 256], text: &[u8], at: usize) -> usize
 // An identifier may not end with `-`, unconsume every one. This is to ensure that in a case like `Number->String`, this parses as two idents
 // with a thin arrow in between. The rule really is that an identifier may not end with `-`, it's not that `->` takes precedence: with that
 // `x-->y` would parse as ident `x-`, which would be invalid everywhere else.
+#[tactic(auto, using(crate::proofs::Identifier::back_none, crate::proofs::Identifier::back_more, crate::proofs::Identifier::back_stop, crate::proofs::Identifier::back_done))]
 fn give_back(text: &[u8], at: usize, end: usize) -> usize
     requires { Within at end text.now }
     ensures { result ≡ at + give_back (drop at text.now) (end - at) }

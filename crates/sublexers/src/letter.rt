@@ -36,6 +36,7 @@ fn open_format(text: &[u8], at: usize) -> Step
 }
 
 // A format string opens, or an identifier begins; `first` is the byte there, which the caller has read.
+#[tactic(auto, using(crate::proofs::Letters::letter_at, crate::proofs::Letters::is_f, crate::proofs::Letters::has_next, crate::proofs::Letters::no_next, crate::proofs::Numbers::some_inside))]
 pub fn lex_in_letter(table: &[u8; 256], first: u8, text: &[u8], at: usize) -> Step
     ensures { step_meant result ≡ outcome at (lettered_by (is_identifier_byte_in table.now) first (drop (at + 1) text.now) (drop at text.now)) }
 {

@@ -47,6 +47,7 @@ fn pop_delimiter(at: usize, top: Opened, due: u8, token: Token, kind: u8) -> Ste
 }
 
 // `}`: what it closes depends on whether it was closing an expression or a string interpolation.
+#[tactic(auto, unfolding(token::specs::Codes::code_of))]
 fn close_brace(at: usize, top: Opened) -> Step
     requires { at + 1 < 2 ^ 64 }
     ensures { step_meant result ≡ outcome at (cond (eqb (innermost_of top) HoleOpen) (found_rule HoleClose 1) (closer (innermost_of top) LBrace RBrace)) }

@@ -1,4 +1,3 @@
-use Prim.Native.Nat.{◌-◌}
 use Rattle.rules.specs.Step.{is_digit_or_underscore}
 use Rattle.scan.proofs.Reach.{stay, more, stop, done}
 use Rattle.scan.proofs.digits_end.Goals as goal

@@ -1,4 +1,3 @@
-use Prim.Native.Nat.{◌-◌}
 use mathlib.Core.Path.{sym, ◌∙◌}
 use Rattle.scan.proofs.Reach.{stay, join, over, reached}
 use native.Mathlib.Omega.{arith}

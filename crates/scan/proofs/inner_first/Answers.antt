@@ -1,4 +1,3 @@
-use Prim.Native.Nat.{◌-◌}
 use Rattle.scan.proofs.Reach.{least-none, least_more, least-done}
 use native.Mathlib.Omega.{arith}
 use Rattle.scan.proofs.inner_first.Goals as goal

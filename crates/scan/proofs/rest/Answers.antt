@@ -1,4 +1,3 @@
-use Prim.Native.Nat.{◌-◌}
 use native.Mathlib.Omega.{arith}
 use Rattle.scan.proofs.Measuring.{going, can-grow, passing-more, passing-less, passing-end}
 use Rattle.scan.proofs.rest.Goals as goal

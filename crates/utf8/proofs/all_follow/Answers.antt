@@ -1,4 +1,3 @@
-use Prim.Native.Nat.{◌-◌}
 use native.Mathlib.Omega.{arith}
 use Rattle.utf8.proofs.Blocks.{all-starts, all-on, all-ends}
 use Rattle.utf8.proofs.all_follow.Goals as goal

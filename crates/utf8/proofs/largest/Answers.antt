@@ -1,4 +1,3 @@
-use Prim.Native.Nat.{◌-◌}
 use native.Mathlib.Omega.{arith}
 use Rattle.utf8.proofs.Blocks.{largest-starts, largest-on, largest-ends}
 use Rattle.utf8.proofs.largest.Goals as goal

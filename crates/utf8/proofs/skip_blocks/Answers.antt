@@ -1,4 +1,3 @@
-use Prim.Native.Nat.{◌-◌}
 use native.Mathlib.Omega.{arith}
 use Rattle.utf8.proofs.Ahead.{stay, join}
 use Rattle.utf8.proofs.skip_blocks.Goals as goal

@@ -1,4 +1,3 @@
-use Prim.Native.Nat.{◌-◌}
 use native.Mathlib.Omega.{arith}
 use Rattle.utf8.proofs.Reading.{start, over-block, to-boundary}
 use Rattle.utf8.proofs.skip_mixed_blocks.Goals as goal

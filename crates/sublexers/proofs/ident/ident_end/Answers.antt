@@ -1,4 +1,3 @@
-use Prim.Native.Nat.{◌-◌}
 use mathlib.Core.Path.{sym, ◌∙◌}
 use Rattle.scan.proofs.Reach.{stay, more, stop, done}
 use Rattle.sublexers.proofs.ident.ident_end.Goals as goal

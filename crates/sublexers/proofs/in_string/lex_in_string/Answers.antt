@@ -1,11 +1,14 @@
 -- The first byte tells the cases apart; each is a law of `Quoted`.
 use Prim.Native.Nat.{◌+◌}
 use mathlib.Core.List.{◌∷◌}
+use mathlib.Core.Bool.{◌&&◌, and-false}
 use mathlib.Core.Path.{◌≡◌, refl, sym, ◌∙◌}
 use lib.ListN.{drop}
 use native.Mathlib.Omega.{arith}
 use borrow.Author.Tests.{le-leb, lt-leb, eq-eqb, ne_eqb}
 use borrow.Author.Rules.{rules}
+use Rattle.rules.specs.Text.{is}
+use Rattle.rules.proofs.Runs.{passes-inside}
 use Rattle.token.specs.Codes.{code_of}
 use Rattle.sublexers.specs.Outcome.{last_position}
 use Rattle.sublexers.specs.Quotes.{inner_by, inside_by}
@@ -86,8 +89,9 @@ unfolding code_of
 byte_at-requires c = search rules
 
 pub overflow_add-at-then-first-byte_at : goal.overflow_add-at-then-first-byte_at
-unfolding code_of
-overflow_add-at-then-first-byte_at c = search rules
+overflow_add-at-then-first-byte_at c =
+    let a = c.args in
+    omega (arith, passes-inside (λ b. is "\n" a.first && is "\n" b) a.text.now (a.at + 1) (and-false (is "\n" a.first)) (rw c.byte_at.ensures at c.if-first-byte_at.true))
 
 pub lexeme_to-requires-then-first-byte_at : goal.lexeme_to-requires-then-first-byte_at
 unfolding code_of
@@ -99,8 +103,9 @@ returns-then-first-byte_at c =
     let a = c.args in
     let inner : inside_by a.stop a.triple (a.first ∷ drop (a.at + 1) a.text.now) ≡ inner_by a.stop (a.first ∷ drop (a.at + 1) a.text.now) =
     elim c.if-first-eq34.branch [
-        then-first-eq34+else-closes_string w ↦ rw (at-quote a.text.now a.at a.first _ refl a.stop a.triple w.if-first-eq34.true, sym w.closes_string.ensures ∙ w.if-closes_string.false) refl
-      | else-first-eq34+else-first-stop w ↦ rw (at_other a.text.now a.at a.first _ refl a.stop a.triple c.if-first-eq92.false w.if-first-eq34.false, ne_eqb a.first a.stop w.if-first-stop.false) refl ] in
+      | then-first-eq34+else-closes_string w ↦ rw (at-quote a.text.now a.at a.first _ refl a.stop a.triple w.if-first-eq34.true, sym w.closes_string.ensures ∙ w.if-closes_string.false) refl
+      | else-first-eq34+else-first-stop w ↦ rw (at_other a.text.now a.at a.first _ refl a.stop a.triple c.if-first-eq92.false w.if-first-eq34.false, ne_eqb a.first a.stop w.if-first-stop.false) refl
+    ] in
     rw (
       lt-leb last_position _ c.if-at-ge-LAST.false,
       inner,
@@ -127,8 +132,9 @@ returns c =
     let a = c.args in
     let inner : inside_by a.stop a.triple (a.first ∷ drop (a.at + 1) a.text.now) ≡ inner_by a.stop (a.first ∷ drop (a.at + 1) a.text.now) =
     elim c.if-first-eq34.branch [
-        then-first-eq34+else-closes_string w ↦ rw (at-quote a.text.now a.at a.first _ refl a.stop a.triple w.if-first-eq34.true, sym w.closes_string.ensures ∙ w.if-closes_string.false) refl
-      | else-first-eq34+else-first-stop w ↦ rw (at_other a.text.now a.at a.first _ refl a.stop a.triple c.if-first-eq92.false w.if-first-eq34.false, ne_eqb a.first a.stop w.if-first-stop.false) refl ] in
+      | then-first-eq34+else-closes_string w ↦ rw (at-quote a.text.now a.at a.first _ refl a.stop a.triple w.if-first-eq34.true, sym w.closes_string.ensures ∙ w.if-closes_string.false) refl
+      | else-first-eq34+else-first-stop w ↦ rw (at_other a.text.now a.at a.first _ refl a.stop a.triple c.if-first-eq92.false w.if-first-eq34.false, ne_eqb a.first a.stop w.if-first-stop.false) refl
+    ] in
     rw (
       lt-leb last_position _ c.if-at-ge-LAST.false,
       inner,

@@ -7,7 +7,7 @@ use Prim.Native.Nat.{◌+◌}
 use borrow.Author.Rules.{rules}
 use Rattle.rules.proofs.Runs.{begins-at}
 use Rattle.token.specs.Codes.{code_of}
-use Rattle.sublexers.proofs.Numbers.{some-inside}
+use Rattle.sublexers.proofs.Numbers.{some_inside}
 use Rattle.sublexers.proofs.punct.dots.Goals as goal
 
 pub overflow_add-at : goal.overflow_add-at
@@ -32,7 +32,7 @@ returns-then-byte_at-ne46 c = rw (c.lexeme_to.ensures, ← c.byte_at.ensures, ne
 
 pub overflow_add-at-2 : goal.overflow_add-at-2
 unfolding code_of
-overflow_add-at-2 c = omega (arith, some-inside c.args.text.now (c.args.at + 1) (sym c.byte_at.ensures ∙ c.if-byte_at-ne46.false))
+overflow_add-at-2 c = omega (arith, some_inside c.args.text.now (c.args.at + 1) (sym c.byte_at.ensures ∙ c.if-byte_at-ne46.false))
 
 pub byte_at-requires-2 : goal.byte_at-requires-2
 unfolding code_of
@@ -40,7 +40,7 @@ byte_at-requires-2 c = search rules
 
 pub overflow_add-at-then-byte_at-eq46 : goal.overflow_add-at-then-byte_at-eq46
 unfolding code_of
-overflow_add-at-then-byte_at-eq46 c = omega (arith, some-inside c.args.text.now (c.args.at + 2) (sym c.byte_at-2.ensures ∙ c.if-byte_at-eq46.true))
+overflow_add-at-then-byte_at-eq46 c = omega (arith, some_inside c.args.text.now (c.args.at + 2) (sym c.byte_at-2.ensures ∙ c.if-byte_at-eq46.true))
 
 pub lexeme_to-requires-then-byte_at-eq46 : goal.lexeme_to-requires-then-byte_at-eq46
 unfolding code_of
@@ -52,7 +52,7 @@ returns-then-byte_at-eq46 c = rw (c.lexeme_to-then-byte_at-eq46.ensures, begins-
 
 pub overflow_add-at-3 : goal.overflow_add-at-3
 unfolding code_of
-overflow_add-at-3 c = omega (arith, some-inside c.args.text.now (c.args.at + 1) (sym c.byte_at.ensures ∙ c.if-byte_at-ne46.false))
+overflow_add-at-3 c = omega (arith, some_inside c.args.text.now (c.args.at + 1) (sym c.byte_at.ensures ∙ c.if-byte_at-ne46.false))
 
 pub lexeme_to-requires-2 : goal.lexeme_to-requires-2
 unfolding code_of

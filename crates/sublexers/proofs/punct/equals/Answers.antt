@@ -6,7 +6,7 @@ use native.Mathlib.Omega.{arith}
 use Prim.Native.Nat.{◌+◌}
 use borrow.Author.Rules.{rules}
 use Rattle.token.specs.Codes.{code_of}
-use Rattle.sublexers.proofs.Numbers.{some-inside}
+use Rattle.sublexers.proofs.Numbers.{some_inside}
 use Rattle.sublexers.proofs.punct.equals.Goals as goal
 
 pub overflow_add-at : goal.overflow_add-at
@@ -19,7 +19,7 @@ byte_at-requires c = search rules
 
 pub overflow_add-at-then-byte_at-eq61 : goal.overflow_add-at-then-byte_at-eq61
 unfolding code_of
-overflow_add-at-then-byte_at-eq61 c = omega (arith, some-inside c.args.text.now (c.args.at + 1) (sym c.byte_at.ensures ∙ c.if-byte_at-eq61.true))
+overflow_add-at-then-byte_at-eq61 c = omega (arith, some_inside c.args.text.now (c.args.at + 1) (sym c.byte_at.ensures ∙ c.if-byte_at-eq61.true))
 
 pub lexeme_to-requires : goal.lexeme_to-requires
 unfolding code_of

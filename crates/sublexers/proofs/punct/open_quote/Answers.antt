@@ -8,7 +8,7 @@ use Prim.Native.Nat.{◌+◌}
 use borrow.Author.Rules.{rules}
 use Rattle.rules.proofs.Runs.{begins-more, begins-at}
 use Rattle.token.specs.Codes.{code_of}
-use Rattle.sublexers.proofs.Numbers.{some-inside}
+use Rattle.sublexers.proofs.Numbers.{some_inside}
 use Rattle.sublexers.proofs.punct.open_quote.Goals as goal
 
 pub overflow_add-at : goal.overflow_add-at
@@ -33,7 +33,7 @@ returns-then-byte_at-ne34 c = rw (c.lexeme_to.ensures, begins-more "\"" "\"" _ _
 
 pub overflow_add-at-2 : goal.overflow_add-at-2
 unfolding code_of
-overflow_add-at-2 c = omega (arith, some-inside c.args.text.now (c.args.at + 1) (sym c.byte_at.ensures ∙ c.if-byte_at-ne34.false))
+overflow_add-at-2 c = omega (arith, some_inside c.args.text.now (c.args.at + 1) (sym c.byte_at.ensures ∙ c.if-byte_at-ne34.false))
 
 pub byte_at-requires-2 : goal.byte_at-requires-2
 unfolding code_of
@@ -53,7 +53,7 @@ returns-then-byte_at-ne34-2 c = rw (c.lexeme_to-then-byte_at-ne34-2.ensures, beg
 
 pub overflow_add-at-3 : goal.overflow_add-at-3
 unfolding code_of
-overflow_add-at-3 c = omega (arith, some-inside c.args.text.now (c.args.at + 2) (sym c.byte_at-2.ensures ∙ c.if-byte_at-ne34-2.false))
+overflow_add-at-3 c = omega (arith, some_inside c.args.text.now (c.args.at + 2) (sym c.byte_at-2.ensures ∙ c.if-byte_at-ne34-2.false))
 
 pub lexeme_to-requires-2 : goal.lexeme_to-requires-2
 unfolding code_of
