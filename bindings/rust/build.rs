@@ -1,5 +1,5 @@
 //! Finds the proved archive and has it linked: RCL_LIBRARY names it, else it is the one that
-//! `rt staticlib rcl` writes in this repository.
+//! `bin/archive` writes in this repository.
 
 use std::path::{Path, PathBuf};
 use std::{env, fs, process};
@@ -25,7 +25,7 @@ fn archive() -> PathBuf {
 
 fn missing(archive: &Path) -> ! {
     eprintln!("The static library is missing: {}", archive.display());
-    eprintln!("Run `rt staticlib rcl` at the repository's top, or set RCL_LIBRARY to the archive.");
+    eprintln!("Run `bin/archive` at the repository's top, or set RCL_LIBRARY to the archive.");
     process::exit(1);
 }
 

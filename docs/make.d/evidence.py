@@ -109,26 +109,19 @@ def edits(_):
 
 
 def gate(_):
-    """From docs/gate.txt: after its first line `crate NAME SECONDS FUNCTIONS AXIOMS` or `edit CRATE NAME SECONDS` each."""
-    checks, tried = {}, {}
+    """From docs/gate.txt: after its first line `crate NAME FUNCTIONS` or `edit CRATE NAME` each."""
+    proved, refused = {}, Counter()
     first, *rest = sources.read("docs/gate.txt").rstrip("\n").split("\n")
     for line in rest:
-        kind, crate, *fields = line.split(" ")
+        kind, crate, field = line.split(" ")
         if kind == "crate":
-            checks[crate] = [int(field) for field in fields]
+            proved[crate] = int(field)
         else:
-            tried.setdefault(crate, []).append(int(fields[1]))
-    rows = [(f"`{crate}`", functions, axioms or "", seconds, len(tried.get(crate, [])) or "", span(tried.get(crate, [])))
-            for crate, (seconds, functions, axioms) in checks.items()]
-    taken, spent = sum(seconds for seconds, _, _ in checks.values()), sum(map(sum, tried.values()))
-    words = f"{first[2:]} Of one core's time the crates took {taken} s and their edits {spent} s."
-    return wrapped(words) + "\n\n" + table(["crate", "functions proved", "axioms", "check, s", "must-fail edits", "each, s"], rows)
-
-
-def span(seconds):
-    if not seconds:
-        return ""
-    return str(min(seconds)) if min(seconds) == max(seconds) else f"{min(seconds)} to {max(seconds)}"
+            refused[crate] += 1
+    order = [crate.name for crate in sources.crates() if crate.name in proved]
+    rows = [(f"`{crate}`", proved[crate], refused[crate] or "") for crate in order]
+    rows.append(("all", sum(proved.values()), refused.total()))
+    return wrapped(first[2:]) + "\n\n" + table(["crate", "functions proved", "must-fail edits refused"], rows)
 
 
 def lines(_):

@@ -47,7 +47,7 @@ class Box(NamedTuple):
 def crate(name):
     """The name, if there is such a crate."""
     lines = (TOP / "crates.txt").read_text(encoding="utf-8").split("\n")
-    if name not in {line.split(":")[0].strip() for line in lines if ":" in line.split("#")[0]}:
+    if name not in {line.split(":")[0].split()[0] for line in lines if ":" in line.split("#")[0]}:
         raise ValueError(f"docs/make.d/pictures.py names the crate `{name}`, which crates.txt has not")
     return name
 

@@ -51,6 +51,7 @@ def crates():
             words = line[2:]
         elif ":" in line:
             name, stands_on = line.split(":")
+            name = name.removesuffix(" staticlib")
             listed.append(Crate(name, stands_on.split(), words or program_words(name)))
             words = ""
         else:
@@ -130,7 +131,7 @@ def contracts(rest, where):
     """The equations after `ensures`, a line each, up to the function's body; a public function has no `requires`."""
     clauses = []
     for line in rest.split("\n"):
-        clause = re.fullmatch(r"\s*ensures \{ λ \w+\. ⌜ (.*) ⌝ \}", line)
+        clause = re.fullmatch(r"\s*ensures (?:\w+ )?\{ (.*) \}", line)
         if clause:
             clauses.append(plain(clause.group(1)))
         elif re.match(r"\s*(ensures|requires)", line):
@@ -142,9 +143,8 @@ def contracts(rest, where):
 
 def plain(contract):
     """`x` for what an array held at the call, `x′` for what it holds after it."""
-    contract = re.sub(r"\(now \((\w+) \.entry\)\)|now \((\w+) \.entry\)", lambda m: m.group(1) or m.group(2), contract)
-    contract = re.sub(r"\(now \((\w+) \.exit\)\)|now \((\w+) \.exit\)", lambda m: (m.group(1) or m.group(2)) + "′", contract)
-    return re.sub(r"\((\w+) \.entry\)", r"\1", contract)
+    contract = re.sub(r"\b(\w+)\.(?:now|old|entry)\b", r"\1", contract)
+    return re.sub(r"\b(\w+)\.new\b", r"\1′", contract)
 
 
 def header():

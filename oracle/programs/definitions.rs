@@ -108,11 +108,11 @@ fn computes(specs: &Path) -> String {
     let modules = unfoldable(specs);
     let mut out = String::from("-- To unfold `computes` is to unfold every definition.\n");
     out.push_str("use Prim.Native.Nat.{ℕ}\nuse mathlib.Core.List.{List}\n");
-    out.push_str("use Rattle·rules.specs.Lexing.{Lexed}\n");
+    out.push_str("use Rattle.rules.specs.Lexing.{Lexed}\n");
     for (module, names) in modules.iter().filter(|(_, names)| !names.is_empty()) {
         writeln!(
             out,
-            "use Rattle·rules.specs.{module}.{{{}}}",
+            "use Rattle.rules.specs.{module}.{{{}}}",
             names.join(", ")
         )
         .unwrap();
@@ -125,15 +125,15 @@ fn computes(specs: &Path) -> String {
 
 const HEADER: &str = "-- Written by oracle/definitions: what the published Rust answers.
 use Prim.Native.Nat.{ℕ}
-use mathlib.Core.Path.{_≡_, refl}
-use mathlib.Core.List.{List, [], _∷_}
+use mathlib.Core.Path.{◌≡◌, refl}
+use mathlib.Core.List.{List, [], ◌∷◌}
 use mathlib.Core.Option.{Option, none, some}
-use Rattle·rules.specs.Spans.{Span, span}
-use Rattle·rules.specs.Answers.{Verdict, refused, accepted}
-use Rattle·rules.specs.Lent.{Lexeme, lexeme}
-use Rattle·rules.specs.Lexing.{Lexed, lexing, listing}
-use Rattle·rules.specs.Measuring.{Measured, measured}
-use Rattle·cases·specs.specs.Computes.{computes}
+use Rattle.rules.specs.Spans.{Span, span}
+use Rattle.rules.specs.Answers.{Verdict, refused, accepted}
+use Rattle.rules.specs.Lent.{Lexeme, lexeme}
+use Rattle.rules.specs.Lexing.{Lexed, lexing, listing}
+use Rattle.rules.specs.Measuring.{Measured, measured}
+use Rattle.cases.specs.Computes.{computes}
 
 abbrev lexed : Verdict → (lexemes steps kept dropped deepest : ℕ) → Lexed
 lexed v a b c d e = record { verdict = v; lexemes = a; steps = b; kept = c; dropped = d; deepest = e }

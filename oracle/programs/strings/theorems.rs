@@ -14,20 +14,20 @@ use super::{indented, value_of, Call, Escape};
 pub const HEADER: &str =
     "-- Written by oracle/definitions: what document 01 and the published Rust answer.
 use Prim.Native.Nat.{ℕ}
-use mathlib.Core.Path.{_≡_, refl}
-use mathlib.Core.List.{List, [], _∷_}
+use mathlib.Core.Path.{◌≡◌, refl}
+use mathlib.Core.List.{List, [], ◌∷◌}
 use mathlib.Core.Bool.{true, false}
 use mathlib.Core.Option.{Option, none, some}
-use Rattle·rules.specs.Spans.{Span, span, spanOf}
-use Rattle·rules.specs.Answers.{Answer, given, refuse, Verdict, refused, accepted}
-use Rattle·rules.specs.Lent.{Arrays, arrays}
-use Rattle·rules.specs.Names.{isIdentifier, isKeyword}
-use Rattle·rules.specs.Escapes.{Unescaped, escapeScalar, unescape}
-use Rattle·rules.specs.Indent.{indentCall}
-use Rattle·rules.specs.Parts.{PartsCall, partsCall}
-use Rattle·rules.specs.Value.{Held, inText, inOutput, ValueCall, valueCall, handedPart}
-use Rattle·rules.specs.Tidy.{Tidied, tidying}
-use Rattle·cases·specs.specs.Computes.{computes}
+use Rattle.rules.specs.Spans.{Span, span, span_of}
+use Rattle.rules.specs.Answers.{Answer, given, refuse, Verdict, refused, accepted}
+use Rattle.rules.specs.Lent.{Arrays, arrays}
+use Rattle.rules.specs.Names.{is_identifier, is_keyword}
+use Rattle.rules.specs.Escapes.{Unescaped, escape_scalar, unescape}
+use Rattle.rules.specs.Indent.{indent_call}
+use Rattle.rules.specs.Parts.{PartsCall, parts_call}
+use Rattle.rules.specs.Value.{Held, in_text, in_output, ValueCall, value_call, handed_part}
+use Rattle.rules.specs.Tidy.{Tidied, tidying}
+use Rattle.cases.specs.Computes.{computes}
 
 abbrev unescaped : Answer ℕ → List ℕ → Unescaped
 unescaped a out = record { answer = a; output = out }
@@ -71,11 +71,11 @@ pub fn damage(equations: &mut [Equation]) {
 pub fn equation(call: &Call) -> Equation {
     let (computed, answer) = match call {
         Call::Identifier(bytes) => (
-            format!("isIdentifier {}", list(bytes)),
+            format!("is_identifier {}", list(bytes)),
             published::is_identifier(bytes).to_string(),
         ),
         Call::Keyword(bytes) => (
-            format!("isKeyword {}", list(bytes)),
+            format!("is_keyword {}", list(bytes)),
             published::is_keyword(bytes).to_string(),
         ),
         Call::Escape(escape) => escape_equation(escape),
@@ -101,7 +101,7 @@ fn escape_equation(escape: &Escape) -> (String, String) {
 
 fn scalar_equation(escape: &Escape) -> (String, String) {
     (
-        format!("escapeScalar {}", lexeme(escape)),
+        format!("escape_scalar {}", lexeme(escape)),
         answer(&escape.scalar()),
     )
 }
@@ -110,7 +110,7 @@ fn scalar_equation(escape: &Escape) -> (String, String) {
 fn lexeme(escape: &Escape) -> String {
     let Entry { kind, at } = escape.lexeme;
     format!(
-        "{} (spanOf {} {}) {kind}",
+        "{} (span_of {} {}) {kind}",
         list(&escape.text),
         at.low,
         at.high
@@ -120,7 +120,7 @@ fn lexeme(escape: &Escape) -> String {
 fn indent_equation(case: &Case) -> (String, String) {
     let (text, parts, count) = (list(&case.text), arrays(&case.list), case.count);
     (
-        format!("indentCall {text} {parts} {count}"),
+        format!("indent_call {text} {parts} {count}"),
         answer(&indented(case)),
     )
 }
@@ -130,7 +130,7 @@ fn parts_equation(case: &Case) -> (String, String) {
     let (count, parts) = (parted.parts.len(), filled(case, &parted.parts));
     let closer = answer(&parted.closer.map(|place| place as u64));
     (
-        format!("partsCall {}", lists(case)),
+        format!("parts_call {}", lists(case)),
         format!("parted {closer} {count} {parts}"),
     )
 }
@@ -149,15 +149,15 @@ fn value_equation(case: &Case) -> (String, String) {
     );
     let (lists, after) = (lists(case), list(&after));
     (
-        format!("valueCall {text} {lists} {out} {at}"),
+        format!("value_call {text} {lists} {out} {at}"),
         format!("valued {value} {count} {parts} {after}"),
     )
 }
 
 fn place(part: Held) -> String {
     match part {
-        Held::Text { start, end } => format!("(inText {start} {end})"),
-        Held::Output { start, end } => format!("(inOutput {start} {end})"),
+        Held::Text { start, end } => format!("(in_text {start} {end})"),
+        Held::Output { start, end } => format!("(in_output {start} {end})"),
     }
 }
 
@@ -188,7 +188,7 @@ fn hand_equation(hand: &Hand) -> (String, String) {
         Ok(bytes) => format!("(given {})", list(bytes)),
         Err(refused) => answer(&Err(refused)),
     };
-    (format!("handedPart {text} {out} {part}"), answer)
+    (format!("handed_part {text} {out} {part}"), answer)
 }
 
 /// What lexing says of a text, in the words of both headers.
