@@ -1,5 +1,6 @@
 // The input.
-ghost use Rattle.report.specs.Within.{Within};
+ghost use Rattle.std.specs.Prelude.{IfSome};
+ghost use Rattle.report.specs.Within.{Within, Reads};
 
 use std::io::Read;
 
@@ -16,7 +17,8 @@ pub(crate) enum Input {
 
 // Reads the input to its end. A read after one that failed may say that the input has ended (a connection that was reset does), so each answer is looked at here.
 pub(crate) fn read_text<R: Read>(from: &mut R, room: &mut [u8]) -> Input
-    ensures { Within result room.new }
+    ensures within { Within result room.new }
+    ensures bytes { IfSome (R.remaining from.old) (Reads result room.new) }
 {
     let mut done: usize = 0;
     while done < room.len() {

@@ -127,7 +127,7 @@ fn replay_all<W: Write>(to: &mut W, list: &[u8]) -> io::Result<()> {
         replay(to, &list[start..end])?;
         start = end + 1;
     }
-    Ok(())
+    to.flush()
 }
 
 // Room for the whole list. Only the length is said, so that nothing computes with so many places.
@@ -156,6 +156,8 @@ fn main(rt: HostRuntime) -> io::Result<()> {
     let mut buffer = room();
     let n = read_input(&mut rt.stdin(), &mut buffer)?;
     let mut to = BufWriter::new(rt.alloc(), rt.stdout())?;
-    replay_all(&mut to, &buffer[..n])?;
-    to.flush()
+    let answered = replay_all(&mut to, &buffer[..n]);
+    // After a failed write nothing more of the answer is written, nor what is held back of it.
+    let _ = to.into_parts();
+    answered
 }

@@ -1,9 +1,10 @@
--- Each turn reads a byte or more.
-use Rattle.std.specs.Prelude.{◌≤◌, ◌-◌, length}
+-- Each turn reads a byte or more, and what stands in the room was the beginning of what there was.
+use Rattle.std.specs.Prelude.{◌≤◌, ◌-◌, length, take}
+use Rattle.std.specs.Io.KnownBytes.{Consumes}
 use Rattle.report.proofs.input.read_text.Given as goal
 
 abbrev pub invariant-loop-done : goal.invariant-loop-done
-invariant-loop-done g l = l.done ≤ length l.room
+invariant-loop-done g l = (l.done ≤ length l.room) × Consumes (g.R.Read.remaining l.initial.from) (g.R.Read.remaining l.from) (take l.done l.room)
 
 abbrev pub decreases-loop-done : goal.decreases-loop-done
 decreases-loop-done g l = length l.room - l.done

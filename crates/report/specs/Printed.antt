@@ -1,0 +1,89 @@
+-- What is printed, byte for byte.
+use Rattle.std.specs.Prelude.{ℕ, zero, suc, List, [], ◌++◌, ◌≡◌, take, drop, length, cond, ltb, codes, decimal}
+use Rattle.std.proofs.Math.Option.{Option, none, some}
+use Rattle.std.specs.Prelude.{Option as Option'}
+use Rattle.std.specs.Io.KnownBytes.{Appends, Keeps}
+use Rattle.rules.specs.Refusals.{TooLong}
+use Rattle.rules.specs.Spans.{Span, nowhere}
+use Rattle.rules.specs.Answers.{Refusal, refusal, Verdict, given, refused, unless_refused}
+use Rattle.rules.specs.Lent.{Lexeme}
+use Rattle.rules.specs.Lexing.{Lexed, lexing, listing}
+use Rattle.rules.specs.Tidy.{tidying}
+use Rattle.list.specs.Entries.{first_of}
+
+-- a number, a space before it
+abbrev pub next : ℕ → List ℕ
+next n = codes " " ++ decimal n
+
+abbrev pub offsets : Span → List ℕ
+offsets s = next s.start ++ next s.end
+
+abbrev pub note_offsets : Option Span → List ℕ
+note_offsets none = []
+note_offsets (some s) = offsets s
+
+-- "A refusal prints `refused`, number, start, end, and note start and end if any, on one line with single spaces."
+abbrev pub refusal_line : Refusal → List ℕ
+refusal_line r = codes "refused" ++ (next r.number ++ (offsets r.at ++ (note_offsets r.note ++ codes "\n")))
+
+-- of a text over a program's limit
+abbrev pub over_line : List ℕ
+over_line = refusal_line (refusal TooLong nowhere)
+
+-- "Sizes first: bytes, lexemes, deepest, steps, dropped bytes".
+abbrev pub sizes_line : (bytes : ℕ) → Lexed → List ℕ
+sizes_line bytes r = decimal bytes ++ (next r.lexemes ++ (next r.deepest ++ (next r.steps ++ (next r.dropped ++ codes "\n"))))
+
+-- a space before every entry of a line but the first
+abbrev pub separator : (place : ℕ) → List ℕ
+separator zero = []
+separator (suc n) = codes " "
+
+abbrev pub kind_at : List Lexeme → (place : ℕ) → List ℕ
+kind_at ls n = separator n ++ decimal (first_of (drop n ls)).kind
+
+abbrev pub span_of_entry : Span → List ℕ
+span_of_entry s = decimal s.start ++ (codes "-" ++ decimal s.end)
+
+abbrev pub span_at : List Lexeme → (place : ℕ) → List ℕ
+span_at ls n = separator n ++ span_of_entry (first_of (drop n ls)).at
+
+-- so many first entries of a list
+abbrev pub kinds_of : List Lexeme → ℕ → List ℕ
+kinds_of ls zero = []
+kinds_of ls (suc n) = kinds_of ls n ++ kind_at ls n
+
+abbrev pub spans_of : List Lexeme → ℕ → List ℕ
+spans_of ls zero = []
+spans_of ls (suc n) = spans_of ls n ++ span_at ls n
+
+-- the sizes, the kind codes and the spans of what was lexed from so many bytes
+abbrev pub listed_lines : (bytes : ℕ) → Lexed → List Lexeme → List ℕ
+listed_lines bytes r ls = sizes_line bytes r ++ ((kinds_of ls r.lexemes ++ codes "\n") ++ (spans_of ls r.lexemes ++ codes "\n"))
+
+-- the listing of a text that is lexed into a list of so many places with a stack of so many, or the refusal's line
+abbrev pub listed_in : (places stack : ℕ) → List ℕ → List ℕ
+listed_in places stack text =
+    unless_refused (lexing 0 places stack text).verdict refusal_line
+    (listed_lines (length text) (lexing 0 places stack text) (listing 0 places stack text))
+
+abbrev pub text_listed : List ℕ → List ℕ
+text_listed text = listed_in 1024 64 text
+
+-- "A listing program reads standard input (over 4,096 bytes: refusal 2; list 1,024 places, stack 64)."
+abbrev pub listing_of : List ℕ → List ℕ
+listing_of text = cond (ltb 4096 (length text)) over_line (text_listed text)
+
+-- what is appended where two writers are lent: to the first the bytes, or to the second the refusal's line; the other one keeps what it held
+abbrev pub AppendsEither : Verdict → (bytes : List ℕ) → (to to' refusals refusals' : Option' (List ℕ)) → Type 0
+AppendsEither (given u) bytes to to' refusals refusals' = Appends to to' bytes × Keeps refusals refusals'
+AppendsEither (refused r) bytes to to' refusals refusals' = Appends refusals refusals' (refusal_line r) × Keeps to to'
+
+-- the tidied text or the refusal's line, with a list and a stack of so many places, into an output whatever it held
+abbrev pub TidiedIn : (places stack : ℕ) → (text out : List ℕ) → (to to' refusals refusals' : Option' (List ℕ)) → Type 0
+TidiedIn places stack text out to to' refusals refusals' =
+    AppendsEither (tidying 0 places stack text out).lexed.verdict (take (tidying 0 places stack text out).written (tidying 0 places stack text out).output) to to' refusals refusals'
+
+-- with memory for every text of 65,536 bytes
+abbrev pub TextTidied : (text : List ℕ) → (to to' refusals refusals' : Option' (List ℕ)) → Type 0
+TextTidied text to to' refusals refusals' = (out : List ℕ) × (length out ≡ 131072) × TidiedIn 65536 65536 text out to to' refusals refusals'
