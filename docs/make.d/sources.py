@@ -128,17 +128,14 @@ def functions(crate):
 
 
 def contracts(rest, where):
-    """The equations after `ensures`, a line each, up to the function's body; a public function has no `requires`."""
-    clauses = []
-    for line in rest.split("\n"):
-        clause = re.fullmatch(r"\s*ensures (?:\w+ )?\{ (.*) \}", line)
-        if clause:
-            clauses.append(plain(clause.group(1)))
-        elif re.match(r"\s*(ensures|requires)", line):
-            raise SystemExit(f"{where}: not a contract in one line: {line.strip()}")
-        elif line.strip() == "{" or line.endswith(" {"):
-            break
-    return clauses
+    """The clauses after `ensures`, up to the function's body; a public function has no `requires`."""
+    head = re.split(r"^\s*\{$|[^{\n]* \{$", rest, maxsplit=1, flags=re.M)[0]
+    if re.search(r"^\s*requires", head, re.M):
+        raise SystemExit(f"{where}: a public function has no `requires`")
+    found = re.findall(r"^\s*ensures (?:\w+ )?\{ (.*?) \}(?=\s*(?:ensures|\Z))", head, re.M | re.S)
+    if len(found) != len(re.findall(r"^\s*ensures", head, re.M)):
+        raise SystemExit(f"{where}: a clause that cannot be read: {head.strip()}")
+    return [plain(" ".join(clause.split())) for clause in found]
 
 
 def plain(contract):
