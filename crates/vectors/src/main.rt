@@ -17,7 +17,7 @@ mod walks;
 ghost use Rattle.std.specs.Prelude.{◌≡◌, ◌≤◌, length, IfOk};
 
 use std::io;
-use std::io::{BufWriter, Read, Write};
+use std::io::{Read, Write};
 
 // A line on texts, spans and lexing: whether it was one.
 fn replay_text<W: Write>(to: &mut W, line: &[u8], word: usize, rest: usize) -> io::Result<bool> {
@@ -155,9 +155,5 @@ fn read_input<R: Read>(from: &mut R, buffer: &mut [u8]) -> io::Result<usize>
 fn main(rt: HostRuntime) -> io::Result<()> {
     let mut buffer = room();
     let n = read_input(&mut rt.stdin(), &mut buffer)?;
-    let mut to = BufWriter::new(rt.alloc(), rt.stdout())?;
-    let answered = replay_all(&mut to, &buffer[..n]);
-    // After a failed write nothing more of the answer is written, nor what is held back of it.
-    let _ = to.into_parts();
-    answered
+    replay_all(&mut rt.stdout(), &buffer[..n])
 }
