@@ -137,7 +137,7 @@ pub fn step<'a>(w: Walker<'a>, skinds: &mut [u8], swords: &mut [u64]) -> Walked<
     }
 }
 
-// From plain parameters to a walker and back, so that whoever calls it needs no walk by hand.
+// From plain parameters to a walker and back, for whoever keeps its place in numbers.
 pub fn step_from(
     doc: u32,
     text: &[u8],
