@@ -8,7 +8,9 @@
 // The parts of a string.
 mod search;
 
-ghost use Rattle.std.specs.Prelude.{◌≡◌};
+ghost use Rattle.std.specs.Prelude.{◌≡◌, ◌≤◌, false};
+ghost use Rattle.rules.specs.Spans.{nowhere, is_bad};
+ghost use Rattle.source.specs.Meaning.{span_meant};
 ghost use Rattle.list.specs.Entries.{entry_meant};
 ghost use Rattle.cst.specs.Meaning.{part_meant, as_part_meant, if_part};
 
@@ -16,10 +18,12 @@ use list::Entry;
 use rules::kind;
 pub use search::parts;
 use source::{Refusal, Span};
+use std::error::Error;
+use std::fmt;
 use token::Escape;
 
 // A part of a string literal or format string.
-#[derive(Clone, Copy)]
+#[derive(Clone, Copy, Debug, PartialEq, Eq)]
 pub enum StringPart {
     // A fragment of a line. The `\n` is leading, not trailing.
     String(Span),
@@ -29,86 +33,85 @@ pub enum StringPart {
     Hole(Span),
 }
 
-// The part that an entry of a list is, or none.
-#[derive(Clone, Copy)]
-pub enum AsPart {
-    Part(StringPart),
-    NoPart,
+// An entry of a list that is no part of a string.
+#[derive(Clone, Copy, Debug, PartialEq, Eq)]
+pub struct NoPart;
+
+impl fmt::Display for NoPart {
+    fn fmt<W: fmt::Write>(&self, f: &mut fmt::Formatter<W>) -> fmt::Result {
+        f.write_str("no part of a string")
+    }
 }
 
-// The closer's place in the list, or why there is none.
-#[derive(Clone, Copy)]
-pub enum Closer {
-    At(usize),
-    Refused(Refusal),
-}
+impl Error for NoPart {}
 
-// What listing the parts answers, and how many were put into the list.
-#[derive(Clone, Copy)]
+// What listing the parts answers, the closer's place or a refusal, and how many were put into the list: a refusal leaves those before it listed.
+#[derive(Clone, Copy, Debug, PartialEq, Eq)]
 pub struct Parted {
-    pub answer: Closer,
+    pub answer: Result<usize, Refusal>,
     pub parts: usize,
 }
 
-// What is open: how many, and the span of the outermost hole's opener where there is one.
+// What is open where the search for the closer stands: how many strings and holes, and the span of the outermost hole's opener where there is one.
+// Kept: 0-0 and no `Option` where there is none, as `parts_from` begins: where a hole closes an `Option` would have an arm that is never taken.
 #[derive(Clone, Copy)]
-pub struct Open {
-    pub depth: usize,
-    pub hole: Span,
+struct Open {
+    depth: usize,
+    hole: Span,
+    ghost some_open: { 1 ≤ depth },
+    ghost good: { is_bad (span_meant hole) ≡ false },
 }
 
-// What a lexeme does that does not end the search: it is passed over, with what is open after it, or completes a part.
-#[derive(Clone, Copy)]
-pub enum Progress {
-    Passes(Open),
-    Yields(StringPart),
-}
-
-// What ends the search: the closer, or a refusal.
-#[derive(Clone, Copy)]
-pub enum Ending {
-    Closes,
-    Refuses(u8, Span),
-}
-
-#[derive(Clone, Copy)]
-pub enum Effect {
-    Goes(Progress),
-    Stops(Ending),
+impl Open {
+    fn only_string() -> Open
+        ensures depth { result.depth ≡ 1 }
+        ensures hole { span_meant result.hole ≡ nowhere }
+    {
+        Open {
+            depth: 1,
+            hole: source::nowhere(),
+        }
+    }
 }
 
 // A part as an entry of a list.
-pub fn entry(part: StringPart) -> Entry
-    ensures { entry_meant result ≡ part_meant part }
-{
-    match part {
-        StringPart::String(span) => Entry {
-            kind: kind::STRING_INNER,
-            at: span,
-        },
-        StringPart::Escape(span, escape) => Entry {
-            kind: token::escape_code(escape),
-            at: span,
-        },
-        StringPart::Hole(span) => Entry {
-            kind: kind::HOLE_OPEN,
-            at: span,
-        },
+impl From<StringPart> for Entry {
+    ghost from_gives = { λ part entry. entry_meant entry ≡ part_meant part };
+
+    fn from(part: StringPart) -> Entry {
+        match part {
+            StringPart::String(at) => Entry {
+                kind: kind::STRING_INNER,
+                at,
+            },
+            StringPart::Escape(at, escape) => Entry {
+                kind: u8::from(escape),
+                at,
+            },
+            StringPart::Hole(at) => Entry {
+                kind: kind::HOLE_OPEN,
+                at,
+            },
+        }
     }
 }
 
 // An entry of a list as a part.
-pub fn part(entry: Entry) -> AsPart
-    ensures { as_part_meant result ≡ if_part (entry_meant entry) }
-{
-    let span = entry.at;
-    let kind = entry.kind;
-    match kind {
-        kind::STRING_INNER => AsPart::Part(StringPart::String(span)),
-        kind::SINGLE => AsPart::Part(StringPart::Escape(span, Escape::Single)),
-        kind::UNICODE4 => AsPart::Part(StringPart::Escape(span, Escape::Unicode4)),
-        kind::UNICODE_DELIM => AsPart::Part(StringPart::Escape(span, Escape::UnicodeDelim)),
-        kind::HOLE_OPEN => AsPart::Part(StringPart::Hole(span)),
-        _ => AsPart::NoPart,
+impl TryFrom<Entry> for StringPart {
+    type Error = NoPart;
+
+    ghost try_from_gives = { λ entry result. as_part_meant result ≡ if_part (entry_meant entry) };
+
+    #[tactic(auto, unfolding(crate::specs::Meaning::if_part))]
+    fn try_from(entry: Entry) -> Result<StringPart, NoPart> {
+        let at = entry.at;
+        match entry.kind {
+            kind::STRING_INNER => Ok(StringPart::String(at)),
+            kind::SINGLE => Ok(StringPart::Escape(at, Escape::Single)),
+            kind::UNICODE4 => Ok(StringPart::Escape(at, Escape::Unicode4)),
+            kind::UNICODE_DELIM => Ok(StringPart::Escape(at, Escape::UnicodeDelim)),
+            kind::HOLE_OPEN => Ok(StringPart::Hole(at)),
+            _ => Err(NoPart),
+        }
     }
 }

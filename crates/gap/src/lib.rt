@@ -1,15 +1,16 @@
 // The gap rule: what stands between two lexemes that are written one after the other; and writing it.
 #![tactic(auto)]
 
-ghost use Rattle.std.specs.Prelude.{◌≡◌, ◌++◌, length};
+ghost use Rattle.std.specs.Prelude.{◌≡◌, ◌++◌};
 ghost use Rattle.rules.specs.Tidy.{gap as gap_rule};
 ghost use Rattle.output.specs.Places.{Put};
 ghost use Rattle.gap.specs.Gaps.{gap_meant};
 
+use output::Full;
 use rules::kind;
 
 // What stands between two lexemes.
-#[derive(Clone, Copy)]
+#[derive(Clone, Copy, Debug, PartialEq, Eq)]
 pub enum Gap {
     Nothing,
     LineEnd,
@@ -29,24 +30,18 @@ pub fn gap_between(first: u8, second: u8) -> Gap
     Gap::Space
 }
 
-// Writes a gap and the lexeme after it, whole or not.
-pub fn put_piece(between: Gap, lexeme: &[u8], output: &mut [u8], position: usize) -> bool
+// Writes a gap and the lexeme after it, whole or not: the position behind them.
+pub fn put_piece(
+    between: Gap,
+    lexeme: &[u8],
+    output: &mut [u8],
+    position: usize,
+) -> Result<usize, Full>
     ensures { Put (gap_meant between ++ lexeme.now) position output.old result output.new }
 {
     match between {
         Gap::Nothing => output::put(lexeme, output, position),
         Gap::LineEnd => output::put_two(b"\n", lexeme, output, position),
         Gap::Space => output::put_two(b" ", lexeme, output, position),
-    }
-}
-
-// How many bytes a gap has.
-pub fn gap_length(between: Gap) -> usize
-    ensures { result ≡ length (gap_meant between) }
-{
-    match between {
-        Gap::Nothing => 0,
-        Gap::LineEnd => 1,
-        Gap::Space => 1,
     }
 }

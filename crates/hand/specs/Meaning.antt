@@ -1,15 +1,9 @@
--- What the check says.
-use Rattle.std.specs.Prelude.{ℕ, cond, List, leb}
+-- Where what is handed back stands.
+use Rattle.std.specs.Prelude.{ℕ, List}
 use Rattle.std.specs.Borrow.{Bor}
-use Rattle.rules.specs.Refusals.{WrongForm}
-use Rattle.rules.specs.Spans.{span}
-use Rattle.rules.specs.Answers.{unless_bad, refuse, Verdict as VerdictRule, accepted, given, refused}
+use Rattle.rules.specs.Answers.{Verdict as VerdictRule, given, refused}
 use Rattle.rules.specs.Value.{Held as HeldRule, in_text, in_output, hand_check}
 use Rattle.source.specs.Meaning.{moved}
-
--- "a check gives 3, then 40 for a part outside its slice", which has so many bytes
-unfoldable pub part_check : (start end bytes : ℕ) → VerdictRule
-part_check a e n = unless_bad (span 0 a e) (cond (leb e n) accepted (refuse WrongForm (span 0 a e)))
 
 -- where a part of slices at these addresses stands: at its start in its own slice; at the text's start where the check refuses it
 abbrev pub stands_at : (text out : ℕ × ℕ) → VerdictRule → HeldRule → ℕ × ℕ

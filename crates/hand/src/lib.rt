@@ -2,58 +2,55 @@
 #![tactic(auto)]
 
 ghost use Rattle.std.specs.Prelude.{◌≡◌};
+ghost use Rattle.rules.specs.Spans.{span};
+ghost use Rattle.rules.specs.Answers.{verdict_on};
+ghost use Rattle.rules.specs.Source.{resolved};
 ghost use Rattle.rules.specs.Value.{ChecksPart, HandsBack};
 ghost use Rattle.source.specs.Meaning.{verdict_meant};
 ghost use Rattle.value.specs.Meaning.{held_meant};
-ghost use Rattle.hand.specs.Meaning.{part_check, handed_at};
+ghost use Rattle.hand.specs.Meaning.{handed_at};
 
-use rules::refusal;
-use source::{Span, Spanned, Verdict};
+use source::{Refusal, Span};
 use value::Held;
 
-// "3, then 40 for a part outside its slice", which has so many bytes.
-fn check_part(start: usize, end: usize, bytes: usize) -> Verdict
-    ensures { verdict_meant result ≡ part_check start end bytes }
+// "3, then 40 for a part outside its slice".
+#[tactic(auto, unfolding(rules::specs::Source::new_span, rules::specs::Source::resolved))]
+fn check_part(slice: &[u8], start: usize, end: usize) -> Result<(), Refusal>
+    ensures { verdict_meant result ≡ verdict_on (resolved slice.now (span 0 start end)) }
 {
-    let made = Span::new(0, start, end);
-    let Spanned::Made(span) = made else {
-        return Verdict::Refused(source::refuse(refusal::BAD_SPAN, source::nowhere()));
-    };
-    if bytes < end {
-        return Verdict::Refused(source::refuse(refusal::WRONG_FORM, span));
-    }
-    Verdict::Accepted
+    Span::new(0, start, end)?.inside(slice)
 }
 
 // Whether the part can be handed back.
-pub fn check(text: &[u8], output: &[u8], part: Held) -> Verdict
+#[tactic(auto, unfolding(rules::specs::Value::handed_part))]
+pub fn check(text: &[u8], output: &[u8], part: Held) -> Result<(), Refusal>
     ensures { ChecksPart text.now output.now (held_meant part) (verdict_meant result) }
 {
     match part {
-        Held::Text(start, end) => check_part(start, end, text.len()),
-        Held::Output(start, end) => check_part(start, end, output.len()),
+        Held::Text(start, end) => check_part(text, start, end),
+        Held::Output(start, end) => check_part(output, start, end),
     }
 }
 
 // The part, where one lifetime serves for both slices; "the text's empty start" where the check refuses.
+#[tactic(auto, unfolding(rules::specs::Value::handed_part, rules::specs::Source::resolved))]
 pub fn hand_in_one_lifetime<'a>(text: &'a [u8], output: &'a [u8], part: Held) -> &'a [u8]
     ensures hands_back { HandsBack text.now output.now (held_meant part) result.now }
-    ensures ref_ptr_value { result.ref_ptr ≡ handed_at text.entry output.entry (held_meant part) }
+    ensures address { result.ref_ptr ≡ handed_at text.entry output.entry (held_meant part) }
 {
-    let checked = check(text, output, part);
-    let Verdict::Accepted = checked else {
+    if check(text, output, part).is_err() {
         return &text[..0];
-    };
+    }
     match part {
         Held::Text(start, end) => &text[start..end],
         Held::Output(start, end) => &output[start..end],
     }
 }
 
-// The part: "two slices with their own lifetimes".
+// The part: "two slices with their own lifetimes". Kept: beside the one above it, since the two slices are lent on for one lifetime first.
 pub fn hand<'t: 'r, 'o: 'r, 'r>(text: &'t [u8], output: &'o [u8], part: Held) -> &'r [u8]
     ensures hands_back { HandsBack text.now output.now (held_meant part) result.now }
-    ensures ref_ptr_value { result.ref_ptr ≡ handed_at text.entry output.entry (held_meant part) }
+    ensures address { result.ref_ptr ≡ handed_at text.entry output.entry (held_meant part) }
 {
     let t: &'r [u8] = text;
     let o: &'r [u8] = output;

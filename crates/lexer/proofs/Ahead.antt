@@ -1,4 +1,5 @@
 -- Whitespace behind a lexeme: outside strings it is the step there.
+use Rattle.std.specs.Prelude.{Option as CodeOption}
 use Prim.Native.Nat.{ℕ, ◌+◌, ◌≤◌, ◌<◌}
 use mathlib.Core.Path.{◌≡◌, refl, sym, ◌∙◌}
 use mathlib.Core.List.{List}
@@ -18,7 +19,7 @@ use Rattle.rules.proofs.Text.{neither}
 use Rattle.scan.specs.declared.Measured.{Measured}
 use Rattle.scan.specs.Measuring.{measured_meant}
 use Rattle.scan.proofs.Measuring.{here-passes, measured-run, measured-lines}
-use Rattle.token.specs.declared.Opened.{Opened}
+use Rattle.token.specs.declared.State.{State as StateCode}
 use Rattle.sublexers.specs.Outcome.{lexeme_to, outcome, innermost_of}
 use Rattle.lexer.specs.Mode.{mode_of}
 use Rattle.lexer.specs.Running.{behind_of}
@@ -31,7 +32,7 @@ unfolding class_of
 whitespace-class b e = rw e refl
 
 -- a lexeme of this kind to this end is the step before `stop`
-pub record Ahead (t : List ℕ) (at stop : ℕ) (top : Opened) (k e : ℕ) : Type 0 where
+pub record Ahead (t : List ℕ) (at stop : ℕ) (top : CodeOption StateCode) (k e : ℕ) : Type 0 where
   pub before : at < stop
   pub is : lexeme_to k e ≡ outcome at (step (innermost_of top) (drop at t))
   pub moves : at < e
@@ -53,7 +54,7 @@ blank-by false true blank end e q = let z : ◌≡◌ {A = ℕ} 0 1 = cc in absu
 blank-by false false true end e q = (refl, refl, refl, cc)
 blank-by false false false end e q = let z : ◌≡◌ {A = ℕ} 0 1 = cc in absurd (omega arith)
 
-module _ (t : List ℕ) (at stop : ℕ) (top : Opened) (inside : stop ≤ length t) where
+module _ (t : List ℕ) (at stop : ℕ) (top : CodeOption StateCode) (inside : stop ≤ length t) where
   -- what the tests leave
   ahead : (k : ℕ) → not (eqb (mode_of top).stop 0) || leb stop at ≡ false → eqb (measured (drop at t)).length 0 ≡ false → k ≡ cond (leb 2 (measured (drop at t)).lines) Blank Space → Ahead t at stop top k (at + (measured (drop at t)).length)
   ahead k a b q =

@@ -1,4 +1,5 @@
 -- The loop of `lex`, in the words of its parts' contracts: what a step's answer says of the text, and that each way out gives the call's result and arrays.
+use Rattle.std.specs.Prelude.{Option as CodeOption, Some, None, Result, Err}
 use Prim.Native.Nat.{ℕ, ◌+◌, ◌-◌, ◌≤◌, ◌<◌, ◌^◌}
 use mathlib.Core.Path.{◌≡◌, refl, sym, ap, ◌∙◌}
 use mathlib.Core.List.{List, [], ◌∷◌, map}
@@ -9,8 +10,11 @@ use lib.Dec.{leb, ltb, eqb}
 use lib.ListN.{length, drop, get_or, length-drop}
 use borrow.Author.Tests.{eqb-true, eqb-false, lt-leb, ltb-true, ltb-false}
 use native.Mathlib.Nat.{add-zero, zero-add}
+use Rattle.rules.specs.Reasons.{number_of}
 use Rattle.rules.specs.Utf8.{first_bad}
 use Rattle.rules.specs.Refusals.{NotUtf8, TooLong, AnotherDue, UnclosedBracket, UnclosedHole, UnclosedString, UnclosedFormat, StackFull, ListFull}
+use Rattle.rules.specs.declared.refusal.Reason.{Reason}
+use Rattle.rules.specs.declared.refusal.Reason.TheVariants.{TooLong as LongReason, NotUtf8 as BadReason}
 use Rattle.rules.specs.Spans.{span, limit}
 use Rattle.rules.specs.Answers.{accepted, refused}
 use Rattle.rules.specs.Kinds.{HoleOpen, Nothing, between, is_space, is_quote_open, is_format, is_opener}
@@ -23,13 +27,11 @@ use Rattle.rules.proofs.Rfc3629.{first-bad}
 use Rattle.rules.proofs.Text.{decide}
 use Rattle.rules.proofs.Trace.{trace-long, trace-bad, within-ends}
 use Rattle.token.specs.Codes.{state_meant}
-use Rattle.token.specs.declared.Opened.{Opened}
-use Rattle.token.specs.declared.Opened.TheVariants.{State as OpenedState, NoOpener}
+use Rattle.token.specs.declared.State.{State as StateCode}
 use Rattle.lexer.specs.declared.Cursor.{Cursor}
 use Rattle.sublexers.specs.declared.Fault.{Fault}
+use Rattle.sublexers.specs.declared.Match.{Match}
 use Rattle.lexer.specs.declared.Lexed.{Lexed}
-use Rattle.sublexers.specs.declared.Step.{Step}
-use Rattle.sublexers.specs.declared.Step.TheVariants.{Refused}
 use Rattle.lexer.specs.Cursor.{start, advance_of, no_room_of}
 use Rattle.lexer.specs.Going.{innermost_in, put_if}
 use Rattle.sublexers.specs.Outcome.{lexeme_to, refused_at, outcome, step_meant, innermost_of}
@@ -53,14 +55,14 @@ outcome-stop at a b e (found j n) q = let z : ◌≡◌ {A = ℕ} 0 1 = cc in ab
 outcome-stop at a b e (stop x f m) q = record { from = f; size = m; is = cc; starts = cc; ends = cc }
 
 -- a step that was refused
-pub fault-means : (answer : Step) (f : Fault) → answer ≡ Refused f → refused_at f.number f.start f.end ≡ step_meant answer
+pub fault-means : (answer : Result Match Fault) (f : Fault) → answer ≡ Err f → refused_at (number_of f.reason) f.start f.end ≡ step_meant answer
 fault-means answer f a = rw a
 
 -- what the innermost opener's state says of its code
-pub no-state : (top : Opened) → state_meant top ≡ none → innermost_of top ≡ Nothing
+pub no-state : (top : CodeOption StateCode) → state_meant top ≡ none → innermost_of top ≡ Nothing
 unfolding state_meant
-no-state (OpenedState s) e = let z : ◌≡◌ {A = ℕ} 0 1 = cc in absurd (omega arith)
-no-state NoOpener e = refl
+no-state (Some s) e = let z : ◌≡◌ {A = ℕ} 0 1 = cc in absurd (omega arith)
+no-state None e = refl
 
 -- the verdict at the text's end, by what is open
 at-end-none : (doc at : ℕ) (os : List Lexeme) → length os ≡ 0 → verdict_of doc at os (at_end (map (λ l. l.kind) os)) ≡ accepted
@@ -160,34 +162,34 @@ module _ {doc : ℕ} {text : List ℕ} {list₀ stack₀ list stack : Lent} {c :
 
   module _ (h : c.at < length text) where
     stop-here : (f : Fault) →
-        refused_at f.number f.start f.end ≡ outcome c.at (step (innermost_in c.depth stack.arrays.kinds) (drop c.at text)) →
-        Stop c.at (step (innermost (codes doc s.past)) (drop c.at text)) f.number f.start f.end
-    stop-here f o = outcome-stop c.at f.number f.start f.end (step (innermost (codes doc s.past)) (drop c.at text)) (rw standing-innermost at o)
+        refused_at (number_of f.reason) f.start f.end ≡ outcome c.at (step (innermost_in c.depth stack.arrays.kinds) (drop c.at text)) →
+        Stop c.at (step (innermost (codes doc s.past)) (drop c.at text)) (number_of f.reason) f.start f.end
+    stop-here f o = outcome-stop c.at (number_of f.reason) f.start f.end (step (innermost (codes doc s.past)) (drop c.at text)) (rw standing-innermost at o)
 
     left : 0 < length (drop c.at text)
     left = omega (arith, length-drop c.at text)
 
     -- the text refuses the step
     pub stop-out : (f : Fault) (r : Lexed) →
-        refused_at f.number f.start f.end ≡ outcome c.at (step (innermost_in c.depth stack.arrays.kinds) (drop c.at text)) →
-        lexed_meant r ≡ refused_with doc f c (note_at f.number c.depth stack.arrays.words) → Lexes doc text list₀ stack₀ (lexed_meant r) list stack
+        refused_at (number_of f.reason) f.start f.end ≡ outcome c.at (step (innermost_in c.depth stack.arrays.kinds) (drop c.at text)) →
+        lexed_meant r ≡ refused_with doc f c (note_at (number_of f.reason) c.depth stack.arrays.words) → Lexes doc text list₀ stack₀ (lexed_meant r) list stack
     stop-out f r o v =
-        let x : Stop c.at (step (innermost (codes doc s.past)) (drop c.at text)) f.number f.start f.end = stop-here f o in
-        let n : (10 ≤ f.number) × (f.number ≤ 24) = stop-number (innermost (codes doc s.past)) (drop c.at text) f.number x.from x.size x.is in
-        way_out (stopped f.number x.from x.size) r (standing-stop s h f.number x.from x.size x.is) (v ∙ same x (note-agrees f.number (below-25 f.number n.1)))
+        let x : Stop c.at (step (innermost (codes doc s.past)) (drop c.at text)) (number_of f.reason) f.start f.end = stop-here f o in
+        let n : (10 ≤ (number_of f.reason)) × ((number_of f.reason) ≤ 24) = stop-number (innermost (codes doc s.past)) (drop c.at text) (number_of f.reason) x.from x.size x.is in
+        way_out (stopped (number_of f.reason) x.from x.size) r (standing-stop s h (number_of f.reason) x.from x.size x.is) (v ∙ same x (note-agrees (number_of f.reason) (below-25 (number_of f.reason) n.1)))
       where
-        same : (x : Stop c.at (step (innermost (codes doc s.past)) (drop c.at text)) f.number f.start f.end) →
-            note_at f.number c.depth stack.arrays.words ≡ note_of f.number (opened doc s.past) →
-            refused_with doc f c (note_at f.number c.depth stack.arrays.words) ≡ counted_at (verdict_of doc c.at (opened doc s.past) (stopped f.number x.from x.size)) c
+        same : (x : Stop c.at (step (innermost (codes doc s.past)) (drop c.at text)) (number_of f.reason) f.start f.end) →
+            note_at (number_of f.reason) c.depth stack.arrays.words ≡ note_of (number_of f.reason) (opened doc s.past) →
+            refused_with doc f c (note_at (number_of f.reason) c.depth stack.arrays.words) ≡ counted_at (verdict_of doc c.at (opened doc s.past) (stopped (number_of f.reason) x.from x.size)) c
         same x e = unfold verdict_of in rw (e, x.starts, x.ends)
 
     -- the fault's offsets are within the limit
     pub stop-small : (f : Fault) →
-        refused_at f.number f.start f.end ≡ outcome c.at (step (innermost_in c.depth stack.arrays.kinds) (drop c.at text)) →
+        refused_at (number_of f.reason) f.start f.end ≡ outcome c.at (step (innermost_in c.depth stack.arrays.kinds) (drop c.at text)) →
         (f.start < 2 ^ 48) × (f.end < 2 ^ 48)
     stop-small f o =
-        let x : Stop c.at (step (innermost (codes doc s.past)) (drop c.at text)) f.number f.start f.end = stop-here f o in
-        let i : x.from + x.size ≤ length (drop c.at text) = stop-inside (innermost (codes doc s.past)) (drop c.at text) f.number x.from x.size left x.is in
+        let x : Stop c.at (step (innermost (codes doc s.past)) (drop c.at text)) (number_of f.reason) f.start f.end = stop-here f o in
+        let i : x.from + x.size ≤ length (drop c.at text) = stop-inside (innermost (codes doc s.past)) (drop c.at text) (number_of f.reason) x.from x.size left x.is in
         let small : length text < 2 ^ 48 = s.small in
         let a : f.start ≡ c.at + x.from = x.starts in
         let b : f.end ≡ c.at + x.from + x.size = x.ends in
@@ -214,15 +216,15 @@ module _ {doc : ℕ} {text : List ℕ} {list₀ stack₀ list stack : Lent} {c :
     took-small t = (omega (arith, s.small), omega (arith, s.small, t.ends, t.fits))
 
     -- there is no room for it
-    pub full-out : (k e number : ℕ) (r : Lexed) → Took k e → number ≡ no_room_of (places_in stack₀) (places_in list₀) c k → (number ≡ 0 → ⊥) →
-        lexed_meant r ≡ refused_with doc (record { end = e; number = number; start = c.at }) c (note_at number c.depth stack.arrays.words) → Lexes doc text list₀ stack₀ (lexed_meant r) list stack
-    full-out k e number r t f z v =
-        way_out (stopped number 0 t.size) r (standing-full s h k t.size t.moves t.fits t.is number (sym f) z)
-        (v ∙ same (note-agrees number (full-unnoted (places_in stack₀) (places_in list₀) c k number f)))
+    pub full-out : (k e : ℕ) (reason : Reason) (r : Lexed) → Took k e → number_of reason ≡ no_room_of (places_in stack₀) (places_in list₀) c k → (number_of reason ≡ 0 → ⊥) →
+        lexed_meant r ≡ refused_with doc (record { end = e; reason = reason; start = c.at }) c (note_at (number_of reason) c.depth stack.arrays.words) → Lexes doc text list₀ stack₀ (lexed_meant r) list stack
+    full-out k e reason r t f z v =
+        way_out (stopped (number_of reason) 0 t.size) r (standing-full s h k t.size t.moves t.fits t.is (number_of reason) (sym f) z)
+        (v ∙ same (note-agrees (number_of reason) (full-unnoted (places_in stack₀) (places_in list₀) c k (number_of reason) f)))
       where
-        same : note_at number c.depth stack.arrays.words ≡ note_of number (opened doc s.past) →
-            refused_with doc (record { end = e; number = number; start = c.at }) c (note_at number c.depth stack.arrays.words) ≡
-            counted_at (verdict_of doc c.at (opened doc s.past) (stopped number 0 t.size)) c
+        same : note_at (number_of reason) c.depth stack.arrays.words ≡ note_of (number_of reason) (opened doc s.past) →
+            refused_with doc (record { end = e; reason = reason; start = c.at }) c (note_at (number_of reason) c.depth stack.arrays.words) ≡
+            counted_at (verdict_of doc c.at (opened doc s.past) (stopped (number_of reason) 0 t.size)) c
         same q = unfold verdict_of in rw (q, t.ends) (simp add-zero)
 
     -- the loop goes on
@@ -231,10 +233,10 @@ module _ {doc : ℕ} {text : List ℕ} {list₀ stack₀ list stack : Lent} {c :
     goes_on {k} t f = rw t.ends (standing_on s h k t.size t.moves t.fits t.is f)
 
 -- a refusal before the first step leaves everything as it was
-at_once : (doc : ℕ) (text : List ℕ) (list stack : Lent) (number at : ℕ) (r : Lexed) → trace_in (places_in list) (places_in stack) text ≡ ends (stopped number at 0) →
-    lexed_meant r ≡ refused_with doc (record { end = at; number = number; start = at }) start none → Lexes doc text list stack (lexed_meant r) list stack
+at_once : (doc : ℕ) (text : List ℕ) (list stack : Lent) (reason : Reason) (at : ℕ) (r : Lexed) → trace_in (places_in list) (places_in stack) text ≡ ends (stopped (number_of reason) at 0) →
+    lexed_meant r ≡ refused_with doc (record { end = at; reason = reason; start = at }) start none → Lexes doc text list stack (lexed_meant r) list stack
 unfolding lexing listing lexed_of verdict_of
-at_once doc text list stack number at r t v =
+at_once doc text list stack reason at r t v =
     record {
       result = v ∙ rw t (simp (zero-add, add-zero));
       listed = rw t;
@@ -243,22 +245,22 @@ at_once doc text list stack number at r t v =
 
 -- the two checks before the first step
 pub long-out : (doc : ℕ) (text : List ℕ) (list stack : Lent) (r : Lexed) → limit < length text →
-    lexed_meant r ≡ refused_with doc (record { end = 0; number = TooLong; start = 0 }) start none → Lexes doc text list stack (lexed_meant r) list stack
+    lexed_meant r ≡ refused_with doc (record { end = 0; reason = LongReason; start = 0 }) start none → Lexes doc text list stack (lexed_meant r) list stack
 unfolding trace_in
 long-out doc text list stack r h v =
     let t : trace_in (places_in list) (places_in stack) text ≡ ends (stopped TooLong 0 0) = rw (trace-long text h) (within-ends (places_in stack) 0 (places_in list) (stopped TooLong 0 0)) in
-    at_once doc text list stack TooLong 0 r t v
+    at_once doc text list stack LongReason 0 r t v
 
 pub bad-out : (doc : ℕ) (text : List ℕ) (list stack : Lent) (bad : ℕ) (r : Lexed) → length text ≤ limit → first_bad text ≡ some bad →
-    lexed_meant r ≡ refused_with doc (record { end = bad; number = NotUtf8; start = bad }) start none → Lexes doc text list stack (lexed_meant r) list stack
+    lexed_meant r ≡ refused_with doc (record { end = bad; reason = BadReason; start = bad }) start none → Lexes doc text list stack (lexed_meant r) list stack
 unfolding trace_in
 bad-out doc text list stack bad r h e v =
     let t : trace_in (places_in list) (places_in stack) text ≡ ends (stopped NotUtf8 bad 0) = rw (trace-bad text bad h e) (within-ends (places_in stack) 0 (places_in list) (stopped NotUtf8 bad 0)) in
-    at_once doc text list stack NotUtf8 bad r t v
+    at_once doc text list stack BadReason bad r t v
 
 pub bad-inside : (text : List ℕ) (bad : ℕ) → first_bad text ≡ some bad → bad < length text
 bad-inside text bad e = ((first-bad text bad).0 e).inside
 
 -- a refusal before the first step may be reported
-pub can-stop-first : (text : List ℕ) {bad number : ℕ} {sw : List ℕ} → bad < length text → length text ≤ limit → CanStop (record { end = bad; number = number; start = bad }) start sw
+pub can-stop-first : (text : List ℕ) {bad : ℕ} {reason : Reason} {sw : List ℕ} → bad < length text → length text ≤ limit → CanStop (record { end = bad; reason = reason; start = bad }) start sw
 can-stop-first text b h = record { start = omega arith; end = omega arith; stack = omega arith; counts = record { steps = omega arith; dropped = omega arith } }

@@ -1,4 +1,5 @@
 -- The innermost opener of a stack in two arrays, and the test for 40 by its code.
+use Rattle.std.specs.Prelude.{Option as CodeOption}
 use Prim.Native.Nat.{ℕ, zero, suc, ◌-◌, ◌≤◌, ◌<◌}
 use native.Mathlib.Omega.{arith}
 use mathlib.Core.Path.{◌≡◌, refl, sym, ap, ◌∙◌}
@@ -16,7 +17,7 @@ use Rattle.list.specs.Entries.{first_of}
 use Rattle.rules.proofs.Listed.{places-length}
 use Rattle.list.proofs.Entries.{lexeme-at}
 use Rattle.token.specs.Codes.{state_meant, if_opener}
-use Rattle.token.specs.declared.Opened.{Opened}
+use Rattle.token.specs.declared.State.{State as StateCode}
 use Rattle.lexer.specs.Memory.{TopState}
 use Rattle.lexer.specs.Going.{innermost_in}
 use Rattle.lexer.specs.Stepping.{top_of, misplaced_by}
@@ -94,7 +95,7 @@ innermost-here (suc d) stack le =
     rw (kind, some-open d, less)
 
 -- and what it has opened is the state that the stack gives
-pub state-here : (depth : ℕ) (stack : Arrays) (kind : ℕ) (r : Opened) → depth ≤ array_places stack → kind ≡ (top_of depth stack).kind → state_meant r ≡ if_opener kind → TopState depth stack.kinds r
+pub state-here : (depth : ℕ) (stack : Arrays) (kind : ℕ) (r : CodeOption StateCode) → depth ≤ array_places stack → kind ≡ (top_of depth stack).kind → state_meant r ≡ if_opener kind → TopState depth stack.kinds r
 unfolding if_opener is_opener
 state-here zero stack kind r le k e = e ∙ rw k
 state-here (suc d) stack kind r le k e =

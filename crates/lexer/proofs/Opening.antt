@@ -1,4 +1,5 @@
 -- What is open where a code is innermost.
+use Rattle.std.specs.Prelude.{Option as CodeOption, Some, None}
 use Prim.Native.Nat.{ℕ}
 use mathlib.Core.Path.{◌≡◌, refl}
 use mathlib.Core.Bool.{cond}
@@ -7,8 +8,7 @@ use mathlib.Core.Option.{Option, none, some}
 use Rattle.rules.specs.Kinds.{Nothing, is_opener}
 use Rattle.rules.proofs.Text.{decide}
 use Rattle.token.specs.Codes.{state_meant, if_opener}
-use Rattle.token.specs.declared.Opened.{Opened}
-use Rattle.token.specs.declared.Opened.TheVariants.{State as OpenedState, NoOpener}
+use Rattle.token.specs.declared.State.{State as StateCode}
 use Rattle.lexer.specs.Memory.{TopState}
 use Rattle.sublexers.specs.Outcome.{innermost_of}
 
@@ -17,17 +17,17 @@ or_nothing : Option ℕ → ℕ
 or_nothing none = Nothing
 or_nothing (some k) = k
 
-meant-code : (r : Opened) → innermost_of r ≡ or_nothing (state_meant r)
+meant-code : (r : CodeOption StateCode) → innermost_of r ≡ or_nothing (state_meant r)
 unfolding state_meant or_nothing
-meant-code (OpenedState s) = refl
-meant-code NoOpener = refl
+meant-code (Some s) = refl
+meant-code None = refl
 
 -- what stands for a code is that code if it is an opener's, and else nothing
-pub opened-code : (r : Opened) (k : ℕ) → state_meant r ≡ if_opener k → innermost_of r ≡ cond (is_opener k) k Nothing
+pub opened-code : (r : CodeOption StateCode) (k : ℕ) → state_meant r ≡ if_opener k → innermost_of r ≡ cond (is_opener k) k Nothing
 unfolding or_nothing if_opener
 opened-code r k e = decide (is_opener k) (λ o. rw (meant-code r, e, o)) (λ o. rw (meant-code r, e, o))
 
 -- at depth 0 nothing is open
-pub nothing-open : (ks : List ℕ) → TopState 0 ks NoOpener
+pub nothing-open : (ks : List ℕ) → TopState 0 ks None
 unfolding state_meant
 nothing-open ks = refl

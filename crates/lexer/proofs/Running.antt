@@ -1,4 +1,5 @@
 -- The loop of `run`: where it stands (`Running`), that a lexeme takes it further, and that each way out says what `Runs` promises.
+use Rattle.std.specs.Prelude.{Option as CodeOption, Result, Err, Ok}
 use Prim.Native.Nat.{ℕ, suc, ◌+◌, ◌-◌, ◌≤◌, ◌<◌, ◌^◌}
 use mathlib.Core.Path.{◌≡◌, refl, sym, ap, ◌∙◌}
 use mathlib.Core.List.{List}
@@ -9,8 +10,11 @@ use lib.Dec.{leb, eqb}
 use lib.ListN.{length, drop, get_or, set, length-drop}
 use lib.Seq.{get_or-set_same}
 use borrow.Author.Tests.{le-leb, lt-leb, ne_eqb, eqb-true}
+use Rattle.rules.specs.Reasons.{number_of}
 use Rattle.rules.specs.Refusals.{StackFull, ListFull}
-use Rattle.rules.specs.Spans.{span, span_of, low, high}
+use Rattle.rules.specs.declared.refusal.Reason.{Reason}
+use Rattle.rules.specs.declared.refusal.Reason.TheVariants.{StackFull as StackReason, ListFull as ListReason}
+use Rattle.rules.specs.Spans.{span, span_of}
 use Rattle.rules.specs.Kinds.{FormatDouble, FormatTriple, Space, is_space, is_opener, is_closer, Blank}
 use Rattle.rules.specs.Step.{step, found}
 use Rattle.rules.specs.Lent.{lexeme, Arrays, Lent, places_in}
@@ -19,7 +23,7 @@ use Rattle.rules.proofs.Bounds.{found_inside}
 use Rattle.rules.proofs.Text.{decide}
 use Rattle.source.specs.declared.Span.{Span}
 use Rattle.token.specs.Codes.{code_of, state_meant, if_opener}
-use Rattle.token.specs.declared.Opened.{Opened}
+use Rattle.token.specs.declared.State.{State as StateCode}
 use Rattle.token.specs.declared.Token.{Token}
 use Rattle.rules.proofs.Lent.{same-places}
 use Rattle.list.specs.Entries.{put_in}
@@ -28,10 +32,7 @@ use Rattle.sublexers.proofs.Outcomes.{found-means}
 use Rattle.lexer.specs.declared.Cursor.{Cursor}
 use Rattle.sublexers.specs.declared.Fault.{Fault}
 use Rattle.sublexers.specs.declared.Match.{Match}
-use Rattle.lexer.specs.declared.RunEnd.{RunEnd}
-use Rattle.lexer.specs.declared.RunEnd.TheVariants.{Reached}
-use Rattle.sublexers.specs.declared.Step.{Step}
-use Rattle.sublexers.specs.declared.Step.TheVariants.{Found, Refused}
+use Rattle.lexer.specs.declared.Ran.{Ran}
 use Rattle.lexer.specs.Cursor.{advance_of, no_room_of}
 use Rattle.lexer.specs.Going.{State, state_at, stack_codes, Course, ends_after, innermost_in, lexeme_in, put_if, Goes, stay, on}
 use Rattle.lexer.specs.Memory.{TopState}
@@ -41,9 +42,9 @@ use Rattle.lexer.specs.Mode.{mode_of}
 use Rattle.lexer.specs.declared.Mode.{Mode}
 use Rattle.lexer.specs.declared.Behind.{Behind}
 use Rattle.lexer.specs.declared.Behind.TheVariants.{Space as SpaceBehind, Blank as BlankBehind}
-use Rattle.lexer.specs.Running.{CanRun, ran_full, behind_of, by_text, by_room, Runs, reached, halted}
+use Rattle.lexer.specs.Running.{CanRun, ran_full, behind_of, by_text, by_room, Runs, reached_at, reached, halted}
 use Rattle.lexer.proofs.Opening.{opened-code}
-use Rattle.lexer.proofs.Parts.{packed, full-opener, full-other, opener-listed}
+use Rattle.lexer.proofs.Parts.{full-opener, full-other, opener_listed}
 use Rattle.lexer.proofs.Standing.{Advanced, advanced, room-stack, depth-opens, depth-rest, depth-stays}
 use Rattle.lexer.proofs.Ahead.{Ahead, space-ahead, blank-ahead}
 use Rattle.lexer.proofs.Loop.{no-state, outcome-found, fault-means}
@@ -51,7 +52,7 @@ use Rattle.lexer.proofs.Going.{put-yes, put-no, Long, goes-long}
 use Rattle.rules.proofs.SpacesAside.{space-opens, space-depth}
 
 -- the state that the stack gives is that of its innermost code
-pub top-code-in : (depth : ℕ) (sk : List ℕ) (top : Opened) → TopState depth sk top → innermost_of top ≡ innermost_in depth sk
+pub top-code-in : (depth : ℕ) (sk : List ℕ) (top : CodeOption StateCode) → TopState depth sk top → innermost_of top ≡ innermost_in depth sk
 top-code-in depth sk top t = decide (eqb depth 0)
     (λ z. no-state top (t ∙ rw z) ∙ rw z)
     (λ z. opened-code top (get_or sk (depth - 1) 0) (t ∙ rw z) ∙ rw z)
@@ -73,7 +74,7 @@ pub space-ends : (b : Bool) (k : ℕ) → k ≡ Space → ends_after b k ≡ fal
 space-ends b k z = ends-not b k (space-opens k (rw z))
 
 module _ (w : Course) (from : State) where
-  pub record Running (now : State) (top : Opened) : Type 0 where
+  pub record Running (now : State) (top : CodeOption StateCode) : Type 0 where
     pub small : w.shift + length w.text < 2 ^ 48
     pub before : w.stop ≤ length w.text
     pub inside : now.cur.at ≤ length w.text
@@ -87,7 +88,7 @@ module _ (w : Course) (from : State) where
     -- the steps that were taken
     pub goes : Goes w from now
 
-  pub running-start : (top : Opened) → CanRun w from top → w.stack ≡ places_in from.stack → Running from top
+  pub running-start : (top : CodeOption StateCode) → CanRun w from top → w.stack ≡ places_in from.stack → Running from top
   running-start top can p = record {
     small = can.small;
     before = can.before;
@@ -102,7 +103,7 @@ module _ (w : Course) (from : State) where
     goes = stay;
   }
 
-module _ {w : Course} {from now : State} {top : Opened} (s : Running w from now top) where
+module _ {w : Course} {from now : State} {top : CodeOption StateCode} (s : Running w from now top) where
   pub as_long : Long from now
   as_long = goes-long now s.goes
 
@@ -119,7 +120,7 @@ module _ {w : Course} {from now : State} {top : Opened} (s : Running w from now 
       pub moves : now.cur.at < e
       pub fits : e ≤ length w.text
 
-    pub taken : (answer : Step) (m : Match) → answer ≡ Found m → step_meant answer ≡ outcome now.cur.at (step (innermost_of top) (drop now.cur.at w.text)) → Taken m.kind m.end
+    pub taken : (answer : Result Match Fault) (m : Match) → answer ≡ Ok m → step_meant answer ≡ outcome now.cur.at (step (innermost_of top) (drop now.cur.at w.text)) → Taken m.kind m.end
     taken answer m a o =
         let is : lexeme_to m.kind m.end ≡ outcome now.cur.at (step (innermost_of top) (drop now.cur.at w.text)) = (found-means now.cur.at (step (innermost_of top) (drop now.cur.at w.text)) answer m a o).1 in
         let x : (n : ℕ) × (step (innermost_of top) (drop now.cur.at w.text) ≡ found m.kind n) × (m.end ≡ now.cur.at + n) =
@@ -130,15 +131,14 @@ module _ {w : Course} {from now : State} {top : Opened} (s : Running w from now 
         record { is = is; moves = omega arith; fits = omega (arith, here) }
 
     -- its code is its token's
-    pub token-code : (answer : Step) (m : Match) → answer ≡ Found m → step_meant answer ≡ outcome now.cur.at (step (innermost_of top) (drop now.cur.at w.text)) → m.kind ≡ code_of m.token
+    pub token-code : (answer : Result Match Fault) (m : Match) → answer ≡ Ok m → step_meant answer ≡ outcome now.cur.at (step (innermost_of top) (drop now.cur.at w.text)) → m.kind ≡ code_of m.token
     token-code answer m a o = (found-means now.cur.at (step (innermost_of top) (drop now.cur.at w.text)) answer m a o).0
 
     -- a lexeme that the text refuses
-    pub refused-out : (answer : Step) (r : RunEnd) (f : Fault) → answer ≡ Refused f → r ≡ refused_by answer now.cur → step_meant answer ≡ outcome now.cur.at (step (innermost_of top) (drop now.cur.at w.text)) →
+    pub refused-out : (answer : Result Match Fault) (r : Ran) (f : Fault) → answer ≡ Err f → r ≡ refused_by answer now.cur → step_meant answer ≡ outcome now.cur.at (step (innermost_of top) (drop now.cur.at w.text)) →
         Runs w from now.list now.stack r
-    unfolding refused_by
     refused-out answer r f a q o =
-        let says : refused_at f.number f.start f.end ≡ outcome now.cur.at (step (innermost_in now.cur.depth (stack_codes now)) (drop now.cur.at w.text)) =
+        let says : refused_at (number_of f.reason) f.start f.end ≡ outcome now.cur.at (step (innermost_in now.cur.depth (stack_codes now)) (drop now.cur.at w.text)) =
         rw (top-code-in now.cur.depth (stack_codes now) top s.state) at (fault-means answer f a ∙ o) in
         rw (q, a) (halted now.cur now.kind f s.goes h s.going (by_text says))
 
@@ -162,27 +162,27 @@ module _ {w : Course} {from now : State} {top : Opened} (s : Running w from now 
       found_here = rw (top-code-in now.cur.depth (stack_codes now) top s.state) at t.is
 
       -- there is no room for it: 30 of an opener, 31 of any lexeme
-      full-stop : (number : ℕ) → number ≡ no_room_of w.stack w.places now.cur k → (number ≡ 0 → ⊥) → Runs w from now.list now.stack (ran_full now.cur now.cur.at e number)
-      full-stop number f Some-number = halted now.cur now.kind _ s.goes h s.going (by_room k found_here f Some-number refl)
+      full-stop : (reason : Reason) → number_of reason ≡ no_room_of w.stack w.places now.cur k → (number_of reason ≡ 0 → ⊥) → Runs w from now.list now.stack (ran_full now.cur now.cur.at e reason)
+      full-stop reason f some_number = halted now.cur now.kind _ s.goes h s.going (by_room k found_here f some_number refl)
 
-      pub stack-full : is_opener k ≡ true → w.stack ≤ now.cur.depth → Runs w from now.list now.stack (ran_full now.cur now.cur.at e StackFull)
+      pub stack-full : is_opener k ≡ true → w.stack ≤ now.cur.depth → Runs w from now.list now.stack (ran_full now.cur now.cur.at e StackReason)
       stack-full o le =
           let full : cond (leb w.stack now.cur.depth) StackFull (cond (leb w.places now.cur.lexemes) ListFull 0) ≡ StackFull = rw (le-leb w.stack now.cur.depth le) in
-          full-stop StackFull (sym full ∙ full-opener w.stack w.places now.cur k (opener-listed k o) o) (λ z. absurd (omega arith))
+          full-stop StackReason (sym full ∙ full-opener w.stack w.places now.cur k (opener_listed k o) o) (λ z. absurd (omega arith))
 
-      pub opener-unlisted : is_opener k ≡ true → now.cur.depth < w.stack → w.places ≤ now.cur.lexemes → Runs w from now.list now.stack (ran_full now.cur now.cur.at e ListFull)
+      pub opener-unlisted : is_opener k ≡ true → now.cur.depth < w.stack → w.places ≤ now.cur.lexemes → Runs w from now.list now.stack (ran_full now.cur now.cur.at e ListReason)
       opener-unlisted o lt le =
           let full : cond (leb w.stack now.cur.depth) StackFull (cond (leb w.places now.cur.lexemes) ListFull 0) ≡ ListFull = rw (lt-leb w.stack now.cur.depth lt, le-leb w.places now.cur.lexemes le) in
-          full-stop ListFull (sym full ∙ full-opener w.stack w.places now.cur k (opener-listed k o) o) (λ z. absurd (omega arith))
+          full-stop ListReason (sym full ∙ full-opener w.stack w.places now.cur k (opener_listed k o) o) (λ z. absurd (omega arith))
 
-      pub other-unlisted : is_space k ≡ false → is_opener k ≡ false → w.places ≤ now.cur.lexemes → Runs w from now.list now.stack (ran_full now.cur now.cur.at e ListFull)
+      pub other-unlisted : is_space k ≡ false → is_opener k ≡ false → w.places ≤ now.cur.lexemes → Runs w from now.list now.stack (ran_full now.cur now.cur.at e ListReason)
       other-unlisted b o le =
           let full : cond (leb w.places now.cur.lexemes) ListFull 0 ≡ ListFull = rw (le-leb w.places now.cur.lexemes le) in
-          full-stop ListFull (sym full ∙ full-other w.stack w.places now.cur k b o) (λ z. absurd (omega arith))
+          full-stop ListReason (sym full ∙ full-other w.stack w.places now.cur k b o) (λ z. absurd (omega arith))
 
       -- or there is
       pub opener-fits : is_opener k ≡ true → now.cur.depth < w.stack → now.cur.lexemes < w.places → no_room_of w.stack w.places now.cur k ≡ 0
-      opener-fits o lt ll = sym (full-opener w.stack w.places now.cur k (opener-listed k o) o) ∙ rw (lt-leb w.stack now.cur.depth lt, lt-leb w.places now.cur.lexemes ll)
+      opener-fits o lt ll = sym (full-opener w.stack w.places now.cur k (opener_listed k o) o) ∙ rw (lt-leb w.stack now.cur.depth lt, lt-leb w.places now.cur.lexemes ll)
 
       pub other_fits : is_space k ≡ false → is_opener k ≡ false → now.cur.lexemes < w.places → no_room_of w.stack w.places now.cur k ≡ 0
       other_fits b o ll = sym (full-other w.stack w.places now.cur k b o) ∙ rw (lt-leb w.places now.cur.lexemes ll)
@@ -197,7 +197,7 @@ module _ {w : Course} {from now : State} {top : Opened} (s : Running w from now 
           (record { before = h; going = s.going; size = x.0; is = x.1; room = f; cursor = ap (advance_of now.cur k) x.2; list = rw x.2 at l; stack = rw x.2 at p })
 
       -- the loop goes on
-      runs_on : (top' : Opened) {list' stack' : Lent} → no_room_of w.stack w.places now.cur k ≡ 0 → Goes w from (state_at (advance_of now.cur k e) k list' stack') → w.ends k ≡ false →
+      runs_on : (top' : CodeOption StateCode) {list' stack' : Lent} → no_room_of w.stack w.places now.cur k ≡ 0 → Goes w from (state_at (advance_of now.cur k e) k list' stack') → w.ends k ≡ false →
           TopState (advance_of now.cur k e).depth stack'.arrays.kinds top' → Running w from (state_at (advance_of now.cur k e) k list' stack') top'
       runs_on top' f g o t' =
           let m : Advanced now.cur k e (advance_of now.cur k e) = advanced now.cur k e s.deeper in
@@ -247,15 +247,12 @@ module _ {w : Course} {from now : State} {top : Opened} (s : Running w from now 
 
       -- any other lexeme, where there is room for it
       module _ (listed : is_space k ≡ false) (room : no_room_of w.stack w.places now.cur k ≡ 0) {list' : Lent} (sp : Span)
-          (words-here : (sp.low ≡ low (span w.doc (w.shift + now.cur.at) (w.shift + e))) × (sp.high ≡ high (span w.doc (w.shift + now.cur.at) (w.shift + e))))
+          (span-here : span_of sp.low sp.high ≡ span w.doc (w.shift + now.cur.at) (w.shift + e))
           (put : list'.arrays ≡ put_in now.cur.lexemes (lexeme k (span_of sp.low sp.high)) now.list.arrays) where
-        span-here : span_of sp.low sp.high ≡ span w.doc (w.shift + now.cur.at) (w.shift + e)
-        span-here = packed w.doc (w.shift + now.cur.at) (w.shift + e) sp.low sp.high in-document.0 in-document.1 words-here
-
         list_put : list' ≡ put_if (not (is_space k)) now.cur.lexemes (lexeme_in w k now.cur.at e) now.list
         list_put = put-yes now.cur.lexemes (lexeme_in w k now.cur.at e) now.list (ap not listed) (rw span-here at put)
 
-        pub other-on : {c' : Cursor} (top' : Opened) → is_opener k ≡ false → w.ends k ≡ false → c' ≡ advance_of now.cur k e → TopState c'.depth (stack_codes now) top' → Running w from (state_at c' k list' now.stack) top'
+        pub other-on : {c' : Cursor} (top' : CodeOption StateCode) → is_opener k ≡ false → w.ends k ≡ false → c' ≡ advance_of now.cur k e → TopState c'.depth (stack_codes now) top' → Running w from (state_at c' k list' now.stack) top'
         other-on top' o n q t' = rw q (runs_on top' room (goes_one room list_put (put-no _ _ now.stack o)) n (rw q at t'))
 
         module _ {stack' : Lent} (o : is_opener k ≡ true) (push : stack'.arrays ≡ put_in now.cur.depth (lexeme k (span_of sp.low sp.high)) now.stack.arrays) where
@@ -266,7 +263,7 @@ module _ {w : Course} {from now : State} {top : Opened} (s : Running w from now 
           opener-long = goes-long (state_at (advance_of now.cur k e) k list' stack') opener-goes
 
           -- it is innermost now
-          opener-top : (top' : Opened) → state_meant top' ≡ if_opener k → TopState (advance_of now.cur k e).depth stack'.arrays.kinds top'
+          opener-top : (top' : CodeOption StateCode) → state_meant top' ≡ if_opener k → TopState (advance_of now.cur k e).depth stack'.arrays.kinds top'
           opener-top top' state =
               let m : Advanced now.cur k e (advance_of now.cur k e) = advanced now.cur k e s.deeper in
               let back : suc now.cur.depth - 1 ≡ now.cur.depth = omega arith in
@@ -276,15 +273,15 @@ module _ {w : Course} {from now : State} {top : Opened} (s : Running w from now 
               let kinds : stack'.arrays.kinds ≡ set (stack_codes now) now.cur.depth k = ap (λ (a : Arrays). a.kinds) (push ∙ put-there now.cur.depth (lexeme k (span_of sp.low sp.high)) now.stack.arrays r') in
               rw (m.depth, depth-opens now.cur.depth k o, some-open, back, kinds, get_or-set_same (stack_codes now) now.cur.depth k 0 (omega arith)) state
 
-          pub opener-on : {c' : Cursor} (top' : Opened) → w.ends k ≡ false → c' ≡ advance_of now.cur k e → state_meant top' ≡ if_opener k → Running w from (state_at c' k list' stack') top'
+          pub opener-on : {c' : Cursor} (top' : CodeOption StateCode) → w.ends k ≡ false → c' ≡ advance_of now.cur k e → state_meant top' ≡ if_opener k → Running w from (state_at c' k list' stack') top'
           opener-on top' n q state = rw q (runs_on top' room opener-goes n (opener-top top' state))
 
           -- or it ends the run
-          pub opener-out : {c' : Cursor} (token : Token) → k ≡ code_of token → w.ends k ≡ true → c' ≡ advance_of now.cur k e → Runs w from list' stack' (Reached c' token)
+          pub opener-out : {c' : Cursor} (token : Token) → k ≡ code_of token → w.ends k ≡ true → c' ≡ advance_of now.cur k e → Runs w from list' stack' (reached_at c' token)
           opener-out token code n q = rw q (reached (advance_of now.cur k e) token (rw (← code) opener-goes) (inr (rw (← code) n)))
 
 -- whitespace behind a lexeme, in the same turn
-module _ {w : Course} {from now : State} {top : Opened} (s : Running w from now top) {at : ℕ} (here : now.cur.at ≡ at) where
+module _ {w : Course} {from now : State} {top : CodeOption StateCode} (s : Running w from now top) {at : ℕ} (here : now.cur.at ≡ at) where
   pub space-behind : {b : Behind} {e : ℕ} (m : Mode) → m ≡ mode_of top → b ≡ SpaceBehind e → b ≡ behind_of w.text at w.stop m.stop → Ahead w.text at w.stop top Space e
   space-behind m kept p q = space-ahead w.text at w.stop top s.before p (rw kept at q)
 
@@ -299,11 +296,10 @@ module _ {w : Course} {from now : State} {top : Opened} (s : Running w from now 
     ahead-taken = record { is = rw here a.is; moves = omega (arith, a.moves); fits = a.fits }
 
     -- the words of its span
-    pub ahead-words : (sp : Span) → (sp.low ≡ low (span w.doc (w.shift + at) (w.shift + e))) × (sp.high ≡ high (span w.doc (w.shift + at) (w.shift + e))) →
-        (sp.low ≡ low (span w.doc (w.shift + now.cur.at) (w.shift + e))) × (sp.high ≡ high (span w.doc (w.shift + now.cur.at) (w.shift + e)))
+    pub ahead-words : (sp : Span) → span_of sp.low sp.high ≡ span w.doc (w.shift + at) (w.shift + e) → span_of sp.low sp.high ≡ span w.doc (w.shift + now.cur.at) (w.shift + e)
     ahead-words sp x = rw here x
 
-    pub ahead-unlisted : is_space k ≡ false → is_opener k ≡ false → w.places ≤ now.cur.lexemes → Runs w from now.list now.stack (ran_full now.cur at e ListFull)
+    pub ahead-unlisted : is_space k ≡ false → is_opener k ≡ false → w.places ≤ now.cur.lexemes → Runs w from now.list now.stack (ran_full now.cur at e ListReason)
     ahead-unlisted b o le = rw (← here) (other-unlisted s ahead_before ahead-taken b o le)
 
 -- a Blank is listed, opens nothing and closes nothing
@@ -316,6 +312,6 @@ unfolding is_closer
 blank-closes = refl
 
 -- the last position is reached
-module _ {w : Course} {from now : State} {top : Opened} (s : Running w from now top) where
-  pub end-stop : (token : Token) → now.kind ≡ code_of token → w.stop ≤ now.cur.at → Runs w from now.list now.stack (Reached now.cur token)
+module _ {w : Course} {from now : State} {top : CodeOption StateCode} (s : Running w from now top) where
+  pub end-stop : (token : Token) → now.kind ≡ code_of token → w.stop ≤ now.cur.at → Runs w from now.list now.stack (reached_at now.cur token)
   end-stop token code h = reached now.cur token (rw (← code) s.goes) (inl h)

@@ -1,4 +1,5 @@
 -- A run up to the next position: the rules' step there, and what it put to the stack.
+use Rattle.std.specs.Prelude.{Result, Ok, Err}
 use Prim.Native.Nat.{ℕ, ◌+◌, ◌<◌}
 use mathlib.Core.Path.{◌≡◌, refl, sym, ap, ◌∙◌}
 use mathlib.Core.List.{List}
@@ -9,6 +10,7 @@ use native.Mathlib.Omega.{arith}
 use lib.Dec.{leb}
 use lib.ListN.{length, drop}
 use borrow.Author.Tests.{lt-leb}
+use Rattle.rules.specs.Reasons.{number_of}
 use Rattle.rules.specs.Refusals.{StackFull}
 use Rattle.rules.specs.Spans.{span}
 use Rattle.rules.specs.Kinds.{Space, is_space, is_opener}
@@ -19,12 +21,12 @@ use Rattle.rules.proofs.Text.{decide}
 use Rattle.token.specs.Codes.{code_of}
 use Rattle.lexer.specs.declared.Cursor.{Cursor}
 use Rattle.sublexers.specs.declared.Fault.{Fault}
-use Rattle.lexer.specs.declared.RunEnd.{RunEnd}
-use Rattle.lexer.specs.declared.RunEnd.TheVariants.{Reached, Halted}
+use Rattle.token.specs.declared.Token.{Token}
+use Rattle.lexer.specs.declared.Ran.{Ran}
 use Rattle.lexer.specs.Cursor.{no_room_of}
 use Rattle.lexer.specs.Going.{State, state_at, Course, course_of, innermost_in, put_if, Steps}
 use Rattle.sublexers.specs.Outcome.{Outcome, lexeme_to, refused_at, outcome}
-use Rattle.lexer.specs.Running.{Refuses, by_text as refused_text, by_room, Runs, reached, halted}
+use Rattle.lexer.specs.Running.{Refuses, by_text as refused_text, by_room, RunsBy, reached, halted}
 use Rattle.lexer.proofs.Standing.{has_room}
 use Rattle.lexer.proofs.Going.{advance-at, advance-depth, none_yet, goes-single}
 
@@ -47,8 +49,8 @@ module _ (doc : ℕ) (text : List ℕ) (from : Cursor) (list stack : Lent) where
 
   -- it was refused by the text, or opens and the stack is full
   pub data RefusedOnce (f : Fault) : Type 0 where
-    by_text : refused_at f.number f.start f.end ≡ due → RefusedOnce f
-    by_stack : (k : ℕ) → lexeme_to k f.end ≡ due → is_opener k && leb (places_in stack) from.depth ≡ true → f.number ≡ StackFull → f.start ≡ from.at → RefusedOnce f
+    by_text : refused_at (number_of f.reason) f.start f.end ≡ due → RefusedOnce f
+    by_stack : (k : ℕ) → lexeme_to k f.end ≡ due → is_opener k && leb (places_in stack) from.depth ≡ true → (number_of f.reason) ≡ StackFull → f.start ≡ from.at → RefusedOnce f
 
   -- nothing was put
   pub record SingleHalted (f : Fault) (stack' : Lent) : Type 0 where
@@ -63,9 +65,12 @@ module _ (doc : ℕ) (text : List ℕ) (from : Cursor) (list stack : Lent) where
     pub listed : list' ≡ put_if (not (is_space k)) from.lexemes (lexeme k (span doc from.at c.at)) list
     pub stacked : stack' ≡ put_if (is_opener k) from.depth (lexeme k (span doc from.at c.at)) stack
 
-  abbrev pub Single : RunEnd → (list' stack' : Lent) → Type 0
-  Single (Halted c f) list' stack' = SingleHalted f stack'
-  Single (Reached c t) list' stack' = SingleReached c (code_of t) list' stack'
+  abbrev pub SingleBy : Cursor → Result Token Fault → (list' stack' : Lent) → Type 0
+  SingleBy c (Err f) list' stack' = SingleHalted f stack'
+  SingleBy c (Ok t) list' stack' = SingleReached c (code_of t) list' stack'
+
+  abbrev pub Single : Ran → (list' stack' : Lent) → Type 0
+  Single r list' stack' = SingleBy r.cursor r.end list' stack'
 
   abbrev course : Course
   course = course_of doc 0 text (from.at + 1) true false list stack
@@ -77,7 +82,7 @@ module _ (doc : ℕ) (text : List ℕ) (from : Cursor) (list stack : Lent) where
     refused-once : (f : Fault) → Refuses course first f → RefusedOnce f
     refused-once f (refused_text q) = by_text q
     refused-once f (by_room k q number z begin) =
-        let full = stack-lacks (places_in stack) (places_in list) from k f.number room number z in
+        let full = stack-lacks (places_in stack) (places_in list) from k (number_of f.reason) room number z in
         by_stack k q full.0 full.1 begin
 
     stepped : (t : State) → Steps course first t → SingleReached t.cur t.kind t.list t.stack
@@ -94,7 +99,7 @@ module _ (doc : ℕ) (text : List ℕ) (from : Cursor) (list stack : Lent) where
           stacked = rw (begins, ends) at x.stack;
         }
 
-    pub single_of : {r : RunEnd} {list' stack' : Lent} → Runs course first list' stack' r → Single r list' stack'
+    pub single_of : {c : Cursor} {end : Result Token Fault} {list' stack' : Lent} → RunsBy course first list' stack' c end → SingleBy c end list' stack'
     single_of (reached c t g x) = stepped _ (goes-single (omega arith) refl _ g (⊎_elim (λ l. l) (λ e. absurd (false≢true e)) x))
     single_of {list' = list'} {stack'} (halted c kind f g h o x) =
         let same : state_at c kind list' stack' ≡ first = none_yet (omega arith) _ g (omega (arith, h)) in

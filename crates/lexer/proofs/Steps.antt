@@ -69,10 +69,10 @@ step-inside k byte triple s e z t = decide (is_quote_open k)
     (λ i. absurd (z (e ∙ rw i)))
 
 -- the byte of a string's opener, plain and format
-pub plain-stop : (style : QuoteStyle) → code "\"" ≡ cond (is_quote_open (quote_code None style)) (stop_of (quote_code None style)) 0
-plain-stop Double = refl
-plain-stop Triple = refl
+pub plain_stop : (style : QuoteStyle) → code "\"" ≡ cond (is_quote_open (quote_code None style)) (stop_of (quote_code None style)) 0
+plain_stop Double = refl
+plain_stop Triple = refl
 
-pub format-stop : (style : QuoteStyle) → code "{" ≡ cond (is_quote_open (quote_code Format style)) (stop_of (quote_code Format style)) 0
-format-stop Double = refl
-format-stop Triple = refl
+pub format_stop : (style : QuoteStyle) → code "{" ≡ cond (is_quote_open (quote_code Format style)) (stop_of (quote_code Format style)) 0
+format_stop Double = refl
+format_stop Triple = refl

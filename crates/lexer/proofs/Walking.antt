@@ -7,12 +7,13 @@ use mathlib.Core.List.{List, [], ◌∷◌}
 use mathlib.Core.Bool.{Bool, true, false, cond, not, ◌&&◌}
 use mathlib.Core.Option.{Option, none, some}
 use lib.Dec.{leb, ltb, eqb}
-use lib.ListN.{length, drop, get_or, length-drop}
-use borrow.Author.Tests.{le-ltb, le-leb, lt-leb, ltb-false, leb-false, eqb-true}
+use lib.ListN.{length, drop, length-drop}
+use borrow.Author.Tests.{le-ltb, le-leb, lt-leb, ltb-false, leb-false}
+use Rattle.rules.specs.Reasons.{number_of}
 use Rattle.rules.specs.Refusals.{AnotherDue, UnclosedFormat, StackFull, WrongForm}
 use Rattle.rules.specs.Spans.{Span, span, limit}
 use Rattle.rules.specs.Answers.{Answer, given, refused, refuse, Refusal, Verdict}
-use Rattle.rules.specs.Kinds.{Nothing, between, is_space, is_opener}
+use Rattle.rules.specs.Kinds.{Nothing, between, is_opener}
 use Rattle.rules.specs.Step.{Step, found, stop, step}
 use Rattle.rules.specs.Lent.{Lexeme, lexeme, Arrays, array_places, Lent, lent}
 use Rattle.rules.specs.Lexing.{stopped, at_end, innermost, depth_after, note_of, verdict_of}
@@ -21,14 +22,12 @@ use Rattle.rules.proofs.Text.{decide}
 use Rattle.rules.proofs.Bounds.{found_inside, stop-inside}
 use Rattle.lexer.specs.declared.Cursor.{Cursor}
 use Rattle.sublexers.specs.declared.Fault.{Fault}
-use Rattle.lexer.specs.declared.StepAnswer.{StepAnswer}
-use Rattle.lexer.specs.declared.StepAnswer.TheVariants.{Lexeme as Found, Ended, Refused as RefusedAnswer}
 use Rattle.lexer.specs.declared.Stepped.{Stepped}
 use Rattle.sublexers.specs.Outcome.{lexeme_to, refused_at, outcome}
 use Rattle.list.specs.Entries.{put_in}
 use Rattle.list.proofs.Entries.{put-there}
 use Rattle.lexer.specs.Going.{innermost_in, put_if}
-use Rattle.lexer.specs.Stepping.{answer_meant, Coded, walker_at, Walks, Moved, moved, moved_meant, moved_of, top_of, note_by, end_by, found_by, refused_by, step_by, moved_by, stack_by, CanStep}
+use Rattle.lexer.specs.Stepping.{step_answer, walker_at, Walks, Moved, moved, moved_meant, moved_of, top_of, note_by, end_by, found_by, refused_by, step_by, moved_by, stack_by, CanStep}
 use Rattle.lexer.proofs.Loop.{outcome-found, Stop, outcome-stop, unclosed-noted}
 use Rattle.lexer.proofs.Single.{RefusedOnce, by_text, by_stack}
 use Rattle.lexer.proofs.Openers.{some-open, open-suc, innermost-top, innermost-here, misplaced-top, none_of}
@@ -144,11 +143,6 @@ Still (given (some l)) = ⊥
 Still (given none) = Unit {0}
 Still (refused r) = Unit {0}
 
-pub still-coded : (a : StepAnswer) → Still (answer_meant a) → Coded a
-still-coded (Found l) s = absurd s
-still-coded Ended s = tt
-still-coded (RefusedAnswer r) s = tt
-
 still-stack : (x : Answer (Option Lexeme)) (depth : ℕ) (stack : Arrays) → Still x → stack ≡ stack_by x depth stack
 still-stack (given (some l)) depth stack s = absurd s
 still-stack (given none) depth stack s = refl
@@ -159,21 +153,20 @@ end-still at depth top = decide (eqb depth 0) (λ e. rw e tt) (λ e. rw e tt)
 
 -- a step that moves as the rule does and leaves the stack that its answer says is the rule's
 module _ (doc at depth : ℕ) (text : List ℕ) (stack : Arrays) (r : Stepped) where
-  pub walks-by : {stack' : Arrays} → moved_meant r ≡ moved_of (walking text (walker_at doc at depth nothing) stack) → Coded r.answer → stack' ≡ stack_by (answer_meant r.answer) depth stack →
+  pub walks-by : {stack' : Arrays} → moved_meant r ≡ moved_of (walking text (walker_at doc at depth nothing) stack) → stack' ≡ stack_by (step_answer r.answer) depth stack →
       Walks text (walker_at doc at depth nothing) stack r stack'
-  walks-by same coded stacked =
+  walks-by same stacked =
       let answer = ap (λ (m : Moved). m.answer) same in
       record {
         answer = answer;
-        coded = coded;
         position = ap (λ (m : Moved). m.at) same;
         depth = ap (λ (m : Moved). m.depth) same;
         stacked = stacked ∙ rw answer (sym (walking-told text (walker_at doc at depth nothing) stack));
       }
 
   -- where the walker stays, nothing is written
-  pub stays_by : moved_meant r ≡ moved_of (walking text (walker_at doc at depth nothing) stack) → Still (answer_meant r.answer) → Walks text (walker_at doc at depth nothing) stack r stack
-  stays_by same still = walks-by same (still-coded r.answer still) (still-stack (answer_meant r.answer) depth stack still)
+  pub stays_by : moved_meant r ≡ moved_of (walking text (walker_at doc at depth nothing) stack) → Still (step_answer r.answer) → Walks text (walker_at doc at depth nothing) stack r stack
+  stays_by same still = walks-by same (still-stack (step_answer r.answer) depth stack still)
 
 -- a step in the text
 module _ (doc : ℕ) {at depth : ℕ} {text : List ℕ} {top : Lexeme} {stack : Arrays} (can : CanStep text at depth top stack) where
@@ -213,19 +206,19 @@ module _ (doc : ℕ) {at depth : ℕ} {text : List ℕ} {top : Lexeme} {stack : 
     pub full-on : is_opener k && leb (array_places stack) depth ≡ true → moved (refuse StackFull (span doc at e)) at depth ≡ moved_by doc text at depth (array_places stack) top
     full-on room = sym (by-found ∙ rw room)
 
-  module _ (f : Fault) (q : refused_at f.number f.start f.end ≡ outcome at (step (innermost_in depth stack.kinds) (drop at text))) where
-    stops : Stop at here f.number f.start f.end
-    stops = outcome-stop at f.number f.start f.end here (q ∙ due-here)
+  module _ (f : Fault) (q : refused_at (number_of f.reason) f.start f.end ≡ outcome at (step (innermost_in depth stack.kinds) (drop at text))) where
+    stops : Stop at here (number_of f.reason) f.start f.end
+    stops = outcome-stop at (number_of f.reason) f.start f.end here (q ∙ due-here)
 
     stop-small : (f.start < 2 ^ 48) × (f.end < 2 ^ 48)
     stop-small =
-        let i = stop-inside (cond (is_opener top.kind) top.kind Nothing) (drop at text) f.number stops.from stops.size left stops.is in
+        let i = stop-inside (cond (is_opener top.kind) top.kind Nothing) (drop at text) (number_of f.reason) stops.from stops.size left stops.is in
         (omega (arith, length-drop at text, stops.starts, i, can.inside, can.small), omega (arith, length-drop at text, stops.ends, i, can.inside, can.small))
 
-    stop-on : moved (refused_by (span doc f.start f.end) f.number depth top) at depth ≡ moved_by doc text at depth (array_places stack) top
+    stop-on : moved (refused_by (span doc f.start f.end) (number_of f.reason) depth top) at depth ≡ moved_by doc text at depth (array_places stack) top
     stop-on =
-        ap (λ (i : ℕ). moved (refused_by (span doc i f.end) f.number depth top) at depth) stops.starts
-        ∙ ap (λ (j : ℕ). moved (refused_by (span doc (at + stops.from) j) f.number depth top) at depth) stops.ends
+        ap (λ (i : ℕ). moved (refused_by (span doc i f.end) (number_of f.reason) depth top) at depth) stops.starts
+        ∙ ap (λ (j : ℕ). moved (refused_by (span doc (at + stops.from) j) (number_of f.reason) depth top) at depth) stops.ends
         ∙ ap (λ (s : Step). step_by doc at depth (array_places stack) top s) (sym stops.is)
         ∙ sym moved_here
 
@@ -235,7 +228,7 @@ module _ (doc : ℕ) {at depth : ℕ} {text : List ℕ} {top : Lexeme} {stack : 
     refused-small (by_text q) = stop-small f (rw (a, d) at q)
     refused-small (by_stack k q full number start) = (omega (arith, start, a, can.inside, can.small), found-small k f.end (rw (a, d) at q))
 
-    pub refused-on : RefusedOnce doc text from list (lent stack.kinds stack.words) f → moved (refused_by (span doc f.start f.end) f.number depth top) at depth ≡ moved_by doc text at depth (array_places stack) top
+    pub refused-on : RefusedOnce doc text from list (lent stack.kinds stack.words) f → moved (refused_by (span doc f.start f.end) (number_of f.reason) depth top) at depth ≡ moved_by doc text at depth (array_places stack) top
     refused-on (by_text q) = stop-on f (rw (a, d) at q)
     refused-on (by_stack k q full number start) =
         let s : f.start ≡ at = start ∙ a in
@@ -248,7 +241,3 @@ module _ (doc : ℕ) {at depth : ℕ} {text : List ℕ} {top : Lexeme} {stack : 
 pub put-arrays : (b : Bool) (place : ℕ) (l : Lexeme) (m : Lent) → (put_if b place l m).arrays ≡ cond b (put_in place l m.arrays) m.arrays
 put-arrays true place l m = refl
 put-arrays false place l m = refl
-
--- the code that stands in a list of one place after a lexeme, a Space's 0 included
-pub listed-kind : (k : ℕ) (at : Span) → get_or (put_if (not (is_space k)) 0 (lexeme k at) (lent (0 ∷ []) (0 ∷ (0 ∷ [])))).arrays.kinds 0 0 ≡ k
-listed-kind k at = decide (is_space k) (λ e. rw e (sym (eqb-true k 0 e))) (λ e. rw e refl)

@@ -1,4 +1,5 @@
 -- A run over a whole text, from its start to its end: whoever reports where it halted, or its end, gives the answer of a lexing call.
+use Rattle.std.specs.Prelude.{Result, Ok, Err}
 use Prim.Native.Nat.{ℕ, ◌+◌, ◌-◌, ◌≤◌, ◌<◌, ◌^◌}
 use mathlib.Core.Path.{◌≡◌, refl, sym, ap, ◌∙◌}
 use mathlib.Core.List.{List}
@@ -8,6 +9,7 @@ use mathlib.Core.Option.{none}
 use native.Mathlib.Nat.{zero-add}
 use native.Mathlib.Omega.{arith}
 use lib.ListN.{length, drop, length-drop}
+use Rattle.rules.specs.Reasons.{number_of}
 use Rattle.rules.specs.Utf8.{first_bad}
 use Rattle.rules.specs.Kinds.{Space}
 use Rattle.rules.specs.Step.{step, found}
@@ -17,12 +19,11 @@ use Rattle.rules.proofs.Bounds.{found_inside}
 use Rattle.lexer.specs.declared.Cursor.{Cursor}
 use Rattle.sublexers.specs.declared.Fault.{Fault}
 use Rattle.lexer.specs.declared.Lexed.{Lexed}
-use Rattle.lexer.specs.declared.RunEnd.{RunEnd}
-use Rattle.lexer.specs.declared.RunEnd.TheVariants.{Reached, Halted}
+use Rattle.token.specs.declared.Token.{Token}
 use Rattle.lexer.specs.Cursor.{start}
 use Rattle.lexer.specs.Going.{State, state_at, Course, course_of, Steps, Goes, stay, on}
 use Rattle.lexer.specs.Results.{lexed_meant, refused_with, verdict_at, note_at, CanStop, CanFinish}
-use Rattle.lexer.specs.Running.{Refuses, by_text, by_room, Runs, reached, halted}
+use Rattle.lexer.specs.Running.{Refuses, by_text, by_room, RunsBy, reached, halted}
 use Rattle.lexer.proofs.Standing.{Standing, standing-start, codes}
 use Rattle.lexer.proofs.Loop.{standing-innermost, can-stop, can-finish, stop-out, stop-small, end-out, full-out, goes_on, took, took-small}
 
@@ -65,15 +66,15 @@ module _ (doc : ℕ) (text : List ℕ) (list₀ stack₀ : Lent) {stop : ℕ} {e
 module _ (doc : ℕ) (text : List ℕ) (list stack list' stack' : Lent) where
   pub record WholeHalted (c : Cursor) (f : Fault) : Type 0 where
     pub stops : CanStop f c stack'.arrays.words
-    pub refused : (r : Lexed) → lexed_meant r ≡ refused_with doc f c (note_at f.number c.depth stack'.arrays.words) → Lexes doc text list stack (lexed_meant r) list' stack'
+    pub refused : (r : Lexed) → lexed_meant r ≡ refused_with doc f c (note_at (number_of f.reason) c.depth stack'.arrays.words) → Lexes doc text list stack (lexed_meant r) list' stack'
 
   pub record WholeReached (c : Cursor) : Type 0 where
     pub finishes : CanFinish c stack'.arrays.kinds stack'.arrays.words
     pub ended : (r : Lexed) → lexed_meant r ≡ verdict_at doc c stack'.arrays.kinds stack'.arrays.words → Lexes doc text list stack (lexed_meant r) list' stack'
 
-  abbrev pub Whole : RunEnd → Type 0
-  Whole (Halted c f) = WholeHalted c f
-  Whole (Reached c t) = WholeReached c
+  abbrev pub WholeBy : Cursor → Result Token Fault → Type 0
+  WholeBy c (Err f) = WholeHalted c f
+  WholeBy c (Ok t) = WholeReached c
 
   module _ (id : doc < 2 ^ 32) (small : length text < 2 ^ 48) (good : first_bad text ≡ none) where
     standing-at : {c : Cursor} {kind : ℕ} → Goes (course_of doc 0 text (length text) true false list stack) (state_at start Space list stack) (state_at c kind list' stack') →
@@ -87,10 +88,10 @@ module _ (doc : ℕ) (text : List ℕ) (list stack list' stack' : Lent) where
         let t = took w h k f.end is in
         record {
           stops = can-stop w f (omega (arith, took-small w h t, begin), (took-small w h t).1);
-          refused = λ r v. full-out w h k f.end f.number r t number z (rw begin at v);
+          refused = λ r v. full-out w h k f.end f.reason r t number z (rw begin at v);
         }
 
-    pub whole_of : {r : RunEnd} → Runs (course_of doc 0 text (length text) true false list stack) (state_at start Space list stack) list' stack' r → Whole r
+    pub whole_of : {c : Cursor} {end : Result Token Fault} → RunsBy (course_of doc 0 text (length text) true false list stack) (state_at start Space list stack) list' stack' c end → WholeBy c end
     whole_of (halted c kind f g h o x) = halts f (standing-at g) h x
     whole_of (reached c t g x) =
         let w = standing-at g in

@@ -1,19 +1,18 @@
 -- What the code's result means, and the contracts of the loop's parts.
-use Rattle.std.specs.Prelude.{ℕ, ◌+◌, ◌-◌, ◌*◌, ◌≤◌, ◌<◌, ◌^◌, List, cond, ◌&&◌, ltb, eqb, length, get_or}
+use Rattle.std.specs.Prelude.{ℕ, ◌+◌, ◌-◌, ◌*◌, ◌≤◌, ◌<◌, ◌^◌, List, cond, ◌&&◌, ltb, eqb, length, get_or, Result, Ok, Err}
 use Rattle.std.proofs.Math.Option.{Option, none, some}
 use Rattle.rules.specs.Refusals.{AnotherDue}
+use Rattle.rules.specs.Reasons.{number_of}
 use Rattle.rules.specs.Spans.{Span as SpanRule, span, span_of}
 use Rattle.rules.specs.Answers.{Verdict, accepted, refused}
 use Rattle.rules.specs.Lexing.{Lexed as LexedRule, unclosed}
 use Rattle.source.specs.Meaning.{verdict_meant}
-use Rattle.source.specs.declared.Verdict.{Verdict as VerdictWords}
+use Rattle.source.specs.declared.Refusal.{Refusal}
 use Rattle.lexer.specs.declared.Cursor.{Cursor}
 use Rattle.sublexers.specs.declared.Fault.{Fault}
 use Rattle.lexer.specs.declared.Lexed.{Lexed}
-use Rattle.lexer.specs.declared.RunEnd.{RunEnd}
-use Rattle.lexer.specs.declared.RunEnd.TheVariants.{Reached, Halted}
-use Rattle.sublexers.specs.declared.Step.{Step}
-use Rattle.sublexers.specs.declared.Step.TheVariants.{Found, Refused}
+use Rattle.lexer.specs.declared.Ran.{Ran}
+use Rattle.sublexers.specs.declared.Match.{Match}
 
 abbrev pub lexed_meant : Lexed → LexedRule
 lexed_meant r = record {
@@ -26,7 +25,7 @@ lexed_meant r = record {
 }
 
 -- a result with the counts of a cursor
-abbrev pub lexed_at : VerdictWords → Cursor → Lexed
+abbrev pub lexed_at : Result (Unit {0}) Refusal → Cursor → Lexed
 lexed_at a c = record {
   answer = a;
   lexemes = c.lexemes;
@@ -55,7 +54,7 @@ abbrev pub note_at : (number depth : ℕ) → List ℕ → Option SpanRule
 note_at number depth sw = cond (eqb number AnotherDue && ltb 0 depth) (some (opener_at depth sw)) none
 
 abbrev pub refused_with : (doc : ℕ) → Fault → Cursor → Option SpanRule → LexedRule
-refused_with doc f c note = counted_at (refused (record { number = f.number; at = span doc f.start f.end; note = note })) c
+refused_with doc f c note = counted_at (refused (record { number = number_of f.reason; at = span doc f.start f.end; note = note })) c
 
 -- the result at the text's end
 abbrev pub verdict_at : (doc : ℕ) → Cursor → (sk sw : List ℕ) → LexedRule
@@ -64,9 +63,9 @@ verdict_at doc c sk sw =
     (counted_at (refused (record { number = unclosed (get_or sk (c.depth - 1) 0); at = span doc c.at c.at; note = some (opener_at c.depth sw) })) c)
 
 -- where a step was refused
-unfoldable pub refused_by : Step → Cursor → RunEnd
-refused_by (Refused f) c = Halted c f
-refused_by (Found m) c = Reached c m.token
+abbrev pub refused_by : Result Match Fault → Cursor → Ran
+refused_by (Err f) c = record { cursor = c; end = Err f }
+refused_by (Ok m) c = record { cursor = c; end = Ok m.token }
 
 -- no count can overflow; no more is open than the deepest
 pub record CanAdvance (c : Cursor) (end : ℕ) : Type 0 where
@@ -93,12 +92,3 @@ pub record CanFinish (c : Cursor) (sk sw : List ℕ) : Type 0 where
   pub stack_kinds : c.depth ≤ length sk
   pub stack_words : c.depth * 2 ≤ length sw
   pub counts : CanReport c
-
--- of steps that were refused; those that were not have nothing to report
-abbrev pub CanHalt : RunEnd → List ℕ → Type 0
-CanHalt (Halted c f) sw = CanStop f c sw
-CanHalt (Reached c t) sw = CanReport c
-
-unfoldable pub halted_with : (doc : ℕ) → RunEnd → List ℕ → LexedRule
-halted_with doc (Halted c f) sw = refused_with doc f c (note_at f.number c.depth sw)
-halted_with doc (Reached c t) sw = counted_at accepted c

@@ -1,5 +1,5 @@
 -- A single step at a position, given a stack: what its answer means, what it leaves, and the step by its innermost opener alone.
-use Rattle.std.specs.Prelude.{ℕ, ◌+◌, ◌-◌, ◌≤◌, ◌<◌, ◌^◌, ◌≡◌, List, Bool, cond, not, ◌&&◌, ◌||◌, leb, ltb, eqb, length, drop}
+use Rattle.std.specs.Prelude.{ℕ, ◌+◌, ◌-◌, ◌≤◌, ◌<◌, ◌^◌, ◌≡◌, List, Bool, cond, not, ◌&&◌, ◌||◌, leb, ltb, eqb, length, drop, Option as CodeOption, Some, None, Result}
 use Rattle.std.proofs.Math.Option.{Option, none, some}
 use Rattle.rules.specs.Refusals.{AnotherDue, UnclosedFormat, StackFull}
 use Rattle.rules.specs.Spans.{Span, span, nowhere}
@@ -9,27 +9,22 @@ use Rattle.rules.specs.Step.{Step, found, stop, step}
 use Rattle.rules.specs.Lent.{Lexeme as LexemeRule, lexeme, Arrays, array_places, contents}
 use Rattle.rules.specs.Lexing.{unclosed, depth_after}
 use Rattle.rules.specs.Walker.{Kept, Walker, Walked, walking}
-use Rattle.source.specs.Meaning.{span_meant, refusal_meant}
+use Rattle.source.specs.Meaning.{span_meant, answer_meant}
+use Rattle.source.specs.declared.Refusal.{Refusal}
 use Rattle.token.specs.Codes.{code_of}
 use Rattle.list.specs.Entries.{first_of, put_in}
-use Rattle.lexer.specs.declared.RunEnd.{RunEnd}
-use Rattle.lexer.specs.declared.RunEnd.TheVariants.{Reached, Halted}
-use Rattle.lexer.specs.declared.StepAnswer.{StepAnswer}
-use Rattle.lexer.specs.declared.StepAnswer.TheVariants.{Lexeme, Ended, Refused}
+use Rattle.lexer.specs.declared.TokenAt.{TokenAt}
 use Rattle.lexer.specs.declared.Stepped.{Stepped}
 
-abbrev pub answer_meant : StepAnswer → Answer (Option LexemeRule)
-answer_meant (Lexeme l) = given (some (lexeme l.kind (span_meant l.at)))
-answer_meant Ended = given none
-answer_meant (Refused r) = refused (refusal_meant r)
+-- a lexeme, or none where the text has ended
+abbrev pub found_meant : CodeOption TokenAt → Option LexemeRule
+found_meant (Some l) = some (lexeme (code_of l.token) (span_meant l.at))
+found_meant None = none
 
--- the kind code of a lexeme that is handed out is its token's
-abbrev pub Coded : StepAnswer → Type 0
-Coded (Lexeme l) = l.kind ≡ code_of l.token
-Coded Ended = Unit {0}
-Coded (Refused r) = Unit {0}
+abbrev pub step_answer : Result (CodeOption TokenAt) Refusal → Answer (Option LexemeRule)
+step_answer = answer_meant found_meant
 
-abbrev pub stepped_by : StepAnswer → (position depth : ℕ) → Stepped
+abbrev pub stepped_by : Result (CodeOption TokenAt) Refusal → (position depth : ℕ) → Stepped
 stepped_by a position depth = record { answer = a; position = position; depth = depth }
 
 -- the walker that stands there
@@ -38,8 +33,7 @@ walker_at doc position depth kept = record { doc = doc; at = position; depth = d
 
 -- one step of a walker with a stack: the answer, the next position and depth, and the stack whole are the rule's
 pub record Walks (text : List ℕ) (w : Walker) (stack : Arrays) (r : Stepped) (stack' : Arrays) : Type 0 where
-  pub answer : answer_meant r.answer ≡ (walking text w stack).answer
-  pub coded : Coded r.answer
+  pub answer : step_answer r.answer ≡ (walking text w stack).answer
   pub position : r.position ≡ (walking text w stack).walker.at
   pub depth : r.depth ≡ (walking text w stack).walker.depth
   pub stacked : stack' ≡ (walking text w stack).stack
@@ -54,7 +48,7 @@ abbrev pub moved : Answer (Option LexemeRule) → (at depth : ℕ) → Moved
 moved a at depth = record { answer = a; at = at; depth = depth }
 
 abbrev pub moved_meant : Stepped → Moved
-moved_meant r = moved (answer_meant r.answer) r.position r.depth
+moved_meant r = moved (step_answer r.answer) r.position r.depth
 
 abbrev pub moved_of : Walked → Moved
 moved_of r = moved r.answer r.walker.at r.walker.depth
@@ -105,8 +99,7 @@ stack_by (refused r) depth stack = stack
 -- a step in the text, by its innermost opener
 pub record StepsOn (doc : ℕ) (text : List ℕ) (at depth : ℕ) (top : LexemeRule) (stack : Arrays) (r : Stepped) (stack' : Arrays) : Type 0 where
   pub moves : moved_meant r ≡ moved_by doc text at depth (array_places stack) top
-  pub coded : Coded r.answer
-  pub stacked : stack' ≡ stack_by (answer_meant r.answer) depth stack
+  pub stacked : stack' ≡ stack_by (step_answer r.answer) depth stack
 
 -- the position lies in a text within the limit, what is open in the stack, and this is innermost
 pub record CanStep (text : List ℕ) (at depth : ℕ) (top : LexemeRule) (stack : Arrays) : Type 0 where
@@ -114,12 +107,3 @@ pub record CanStep (text : List ℕ) (at depth : ℕ) (top : LexemeRule) (stack 
   pub small : length text < 2 ^ 48
   pub shallow : depth ≤ array_places stack
   pub innermost : top ≡ top_of depth stack
-
--- the fault of a step has a span
-abbrev pub CanPack : RunEnd → Type 0
-CanPack (Halted c f) = (f.start < 2 ^ 48) × (f.end < 2 ^ 48)
-CanPack (Reached c t) = Unit {0}
-
-unfoldable pub halted_by : (doc : ℕ) → RunEnd → (depth : ℕ) → LexemeRule → Answer (Option LexemeRule)
-halted_by doc (Halted c f) depth top = refused_by (span doc f.start f.end) f.number depth top
-halted_by doc (Reached c t) depth top = given none

@@ -3,23 +3,22 @@
 // Licensed under the Apache License, Version 2.0 (the "License"): see NOTICE.
 // From src/lexer.rs of RCL, changed: the state stack stands in lent arrays, and the list of lexemes too.
 
-// The innermost opener, as the lent stack has it in two parallel arrays.
+// The innermost opener, as the lent stack has it.
 ghost use Rattle.std.specs.Prelude.{◌≡◌, ◌+◌, ◌-◌, ◌*◌, ◌<◌, ◌≤◌, length, get_or};
 ghost use Rattle.lexer.specs.Memory.{TopState};
 
 use source::Span;
-use token::Opened;
+use token::State;
 
 // What the innermost opener has opened.
-pub(crate) fn top_state(kinds: &[u8], depth: usize) -> Opened
+pub(crate) fn top_state(kinds: &[u8], depth: usize) -> Option<State>
     requires { depth ≤ length kinds.now }
     ensures { TopState depth kinds.now result }
 {
     if depth == 0 {
-        return Opened::NoOpener;
+        return None;
     }
-    let k = kinds[depth - 1];
-    token::state_of(k)
+    token::state_of(kinds[depth - 1])
 }
 
 // The span of the innermost opener.

@@ -5,104 +5,92 @@
 
 // Lexing a text into a lent list, with a lent stack. The loop stands in a function of its own, `run`, which is the one place where steps are taken: the optimiser then puts the whole
 // step into the loop.
-ghost use Rattle.std.specs.Prelude.{◌≡◌, true, false, pred};
+ghost use Rattle.std.specs.Prelude.{◌≡◌, ◌*◌, ◌≤◌, length, true, false};
 ghost use Rattle.rules.specs.Kinds.{Space, is_space, is_opener, is_closer};
+ghost use Rattle.rules.specs.Reasons.{number_of};
 ghost use Rattle.rules.specs.Lent.{lent};
 ghost use Rattle.rules.specs.Lexing.{Lexes};
+ghost use Rattle.source.specs.Meaning.{note_meant};
+ghost use Rattle.list.specs.Entries.{lent_in, SameArrays};
 ghost use Rattle.lexer.specs.Cursor.{advance_of};
-ghost use Rattle.lexer.specs.Results.{lexed_meant, lexed_at, refused_with, refused_by, CanAdvance, CanReport, CanStop, CanFinish, CanHalt, note_at, verdict_at, halted_with};
+ghost use Rattle.lexer.specs.Results.{lexed_meant, lexed_at, refused_with, refused_by, CanAdvance, CanReport, CanStop, CanFinish, note_at, verdict_at};
 ghost use Rattle.lexer.specs.Going.{room_of, ends_after, course_of, state_at};
 ghost use Rattle.lexer.specs.Running.{CanRun, Runs, behind_of, ran_full};
 
-use crate::{Behind, Cursor, Lexed, Mode, RunEnd, lent, next, pack};
-use list::Entry;
-use rules::{kind, refusal};
-use source::{Note, Refusal, Verdict};
+use crate::{Behind, Cursor, Lexed, Mode, Ran, START, lent, next, pack};
+use list::{Entry, List, ListMut};
+use rules::{Reason, kind};
+use source::{Refusal, Span};
 use sublexers::{Fault, Step};
-use token::{Opened, Token};
-use utf8::Checked;
+use token::{State, Token};
 
-// The counts after a Space.
-fn past_space(cur: Cursor, end: usize) -> Cursor
-    requires { CanAdvance cur end }
-    ensures { result ≡ advance_of cur Space end }
-{
-    let bytes = end - cur.at;
-    Cursor {
-        at: end,
-        depth: cur.depth,
-        lexemes: cur.lexemes,
-        spaces: cur.spaces + 1,
-        dropped: cur.dropped + bytes,
-        deepest: cur.deepest,
+impl Cursor {
+    // The counts after a Space.
+    #[tactic(auto, unfolding(crate::specs::Cursor::advance_of))]
+    fn past_space(self, end: usize) -> Cursor
+        requires { CanAdvance self end }
+        ensures { result ≡ advance_of self Space end }
+    {
+        Cursor {
+            at: end,
+            spaces: self.spaces + 1,
+            dropped: self.dropped + (end - self.at),
+            ..self
+        }
+    }
+
+    // The counts after an opener.
+    #[tactic(auto, using(crate::proofs::Parts::opener_listed), unfolding(crate::specs::Cursor::advance_of))]
+    fn past_opener(self, kind: u8, end: usize) -> Cursor
+        requires { CanAdvance self end × (is_opener kind ≡ true) }
+        ensures { result ≡ advance_of self kind end }
+    {
+        let depth = self.depth + 1;
+        Cursor {
+            at: end,
+            depth,
+            lexemes: self.lexemes + 1,
+            deepest: self.deepest.max(depth),
+            ..self
+        }
+    }
+
+    // The counts after a closer.
+    #[tactic(auto, using(crate::proofs::Parts::closer_listed, crate::proofs::Parts::max_stays), unfolding(crate::specs::Cursor::advance_of))]
+    fn past_closer(self, kind: u8, end: usize) -> Cursor
+        requires { CanAdvance self end × (is_opener kind ≡ false) × (is_closer kind ≡ true) }
+        ensures { result ≡ advance_of self kind end }
+    {
+        Cursor {
+            at: end,
+            depth: self.depth.saturating_sub(1),
+            lexemes: self.lexemes + 1,
+            ..self
+        }
+    }
+
+    // The counts after any other lexeme.
+    #[tactic(auto, using(crate::proofs::Parts::max_stays), unfolding(crate::specs::Cursor::advance_of))]
+    fn past_other(self, kind: u8, end: usize) -> Cursor
+        requires { CanAdvance self end × (is_space kind ≡ false) × (is_opener kind ≡ false) × (is_closer kind ≡ false) }
+        ensures { result ≡ advance_of self kind end }
+    {
+        Cursor {
+            at: end,
+            lexemes: self.lexemes + 1,
+            ..self
+        }
     }
 }
 
-// The counts after an opener.
-fn past_opener(cur: Cursor, kind: u8, end: usize) -> Cursor
-    requires { CanAdvance cur end × (is_opener kind ≡ true) }
-    ensures { result ≡ advance_of cur kind end }
-{
-    let depth = cur.depth + 1;
-    Cursor {
-        at: end,
-        depth: depth,
-        lexemes: cur.lexemes + 1,
-        spaces: cur.spaces,
-        dropped: cur.dropped,
-        deepest: basics::greater(cur.deepest, depth),
-    }
-}
-
-// One fewer, if any.
-fn shallower(depth: usize) -> usize
-    ensures { result ≡ pred depth }
-{
-    if depth == 0 {
-        return 0;
-    }
-    depth - 1
-}
-
-// The counts after a closer.
-fn past_closer(cur: Cursor, kind: u8, end: usize) -> Cursor
-    requires { CanAdvance cur end × (is_opener kind ≡ false) × (is_closer kind ≡ true) }
-    ensures { result ≡ advance_of cur kind end }
-{
-    let depth = cur.depth;
-    Cursor {
-        at: end,
-        depth: shallower(depth),
-        lexemes: cur.lexemes + 1,
-        spaces: cur.spaces,
-        dropped: cur.dropped,
-        deepest: cur.deepest,
-    }
-}
-
-// The counts after any other lexeme.
-fn past_other(cur: Cursor, kind: u8, end: usize) -> Cursor
-    requires { CanAdvance cur end × (is_space kind ≡ false) × (is_opener kind ≡ false) × (is_closer kind ≡ false) }
-    ensures { result ≡ advance_of cur kind end }
-{
-    Cursor {
-        at: end,
-        depth: cur.depth,
-        lexemes: cur.lexemes + 1,
-        spaces: cur.spaces,
-        dropped: cur.dropped,
-        deepest: cur.deepest,
-    }
-}
-
-fn result(answer: Verdict, cur: Cursor) -> Lexed
+fn result(answer: Result<(), Refusal>, cur: Cursor) -> Lexed
     requires { CanReport cur }
     ensures { result ≡ lexed_at answer cur }
 {
     let lexemes = cur.lexemes;
     Lexed {
-        answer: answer,
-        lexemes: lexemes,
+        answer,
+        lexemes,
         steps: lexemes + cur.spaces,
         kept: cur.at - cur.dropped,
         dropped: cur.dropped,
@@ -110,82 +98,69 @@ fn result(answer: Verdict, cur: Cursor) -> Lexed
     }
 }
 
-// The result where a step was refused: of the steps' refusals only 24 has a note.
-fn stopped(doc: u32, fault: Fault, cur: Cursor, swords: &[u64]) -> Lexed
-    requires { CanStop fault cur swords.now }
-    ensures { lexed_meant result ≡ refused_with doc fault cur (note_at fault.number cur.depth swords.now) }
+// Of the steps' refusals only 24 has a note: the opener.
+fn note_of(reason: Reason, depth: usize, stack: List<'_>) -> Option<Span>
+    requires { depth * 2 ≤ length stack.words.now }
+    ensures { note_meant result ≡ note_at (number_of reason) depth stack.entry.words.now }
 {
-    let at = pack(doc, fault.start, fault.end);
-    let number = fault.number;
-    let depth = cur.depth;
-    if (number == refusal::ANOTHER_DUE) & (0 < depth) {
-        let opener = lent::opener(swords, depth);
-        return result(
-            Verdict::Refused(Refusal {
-                number: number,
-                at: at,
-                note: Note::At(opener),
-            }),
-            cur,
-        );
+    if reason == Reason::AnotherDue && 0 < depth {
+        return Some(lent::opener(stack.words, depth));
     }
-    result(
-        Verdict::Refused(Refusal {
-            number: number,
-            at: at,
-            note: Note::None,
-        }),
-        cur,
-    )
+    None
+}
+
+// The result where a step was refused.
+fn stopped(doc: u32, fault: Fault, cur: Cursor, stack: List<'_>) -> Lexed
+    requires { CanStop fault cur stack.words.now }
+    ensures { lexed_meant result ≡ refused_with doc fault cur (note_at (number_of fault.reason) cur.depth stack.entry.words.now) }
+{
+    let refusal = Refusal {
+        reason: fault.reason,
+        at: pack(doc, fault.start, fault.end),
+        note: note_of(fault.reason, cur.depth, stack),
+    };
+    result(Err(refusal), cur)
 }
 
 // The result where the end of the text is reached.
-fn report_unclosed_delimiters(doc: u32, cur: Cursor, skinds: &[u8], swords: &[u64]) -> Lexed
-    requires { CanFinish cur skinds.now swords.now }
-    ensures { lexed_meant result ≡ verdict_at doc cur skinds.now swords.now }
+fn report_unclosed_delimiters(doc: u32, cur: Cursor, stack: List<'_>) -> Lexed
+    requires { CanFinish cur stack.kinds.now stack.words.now }
+    ensures { lexed_meant result ≡ verdict_at doc cur stack.entry.kinds.now stack.entry.words.now }
 {
     let depth = cur.depth;
     if depth == 0 {
-        return result(Verdict::Accepted, cur);
+        return result(Ok(()), cur);
     }
-    let number = token::unclosed_number(skinds[depth - 1]);
-    let opener = lent::opener(swords, depth);
-    let at = pack(doc, cur.at, cur.at);
-    result(
-        Verdict::Refused(Refusal {
-            number: number,
-            at: at,
-            note: Note::At(opener),
-        }),
-        cur,
-    )
+    let refusal = Refusal {
+        reason: token::unclosed(stack.kinds[depth - 1]),
+        at: pack(doc, cur.at, cur.at),
+        note: Some(lent::opener(stack.words, depth)),
+    };
+    result(Err(refusal), cur)
 }
 
 // The steps end at a step that was refused.
-fn refused_step(answer: Step, cur: Cursor) -> RunEnd
+fn refused_step(answer: Step, cur: Cursor) -> Ran
     ensures { result ≡ refused_by answer cur }
 {
-    match answer {
-        Step::Refused(fault) => RunEnd::Halted(cur, fault),
-        Step::Found(lexeme) => {
-            let token = lexeme.token;
-            RunEnd::Reached(cur, token)
-        }
+    Ran {
+        cursor: cur,
+        end: answer.map(|lexeme| lexeme.token),
     }
 }
 
 // The steps end at a lexeme for which there is no room: 30 or 31.
-fn no_room(cur: Cursor, at: usize, end: usize, number: u8) -> RunEnd
-    ensures { result ≡ ran_full cur at end number }
+fn no_room(cur: Cursor, at: usize, end: usize, reason: Reason) -> Ran
+    ensures { result ≡ ran_full cur at end reason }
 {
-    RunEnd::Halted(
-        cur,
-        Fault {
-            end: end,
-            number: number,
+    Ran {
+        cursor: cur,
+        end: Err(Fault {
+            end,
+            reason,
             start: at,
-        },
-    )
+        }),
+    }
 }
 
 // The whitespace at `at`, behind a lexeme: outside strings and before `stop` it is the next step, and goes with the lexeme in the same turn of the loop.
@@ -212,9 +187,10 @@ fn room(listed: bool, kinds: &[u8], words: &[u64]) -> usize
     ensures { result ≡ room_of listed (lent kinds.now words.now) }
 {
     if listed {
-        return list::places(kinds, words);
+        list::places(kinds, words)
+    } else {
+        usize::MAX
     }
-    0xffff_ffff_ffff_ffff
 }
 
 // Whether the steps end after this opener: a format string's, where they are to end there.
@@ -226,13 +202,14 @@ fn ends_after(to_format: bool, kind: u8) -> bool
 
 // Takes steps from a cursor on, where `top` is innermost, while it stands before `stop`: one step where `stop` is the next position, all of them where it is the text's end. With `to_format` the steps
 // end after a format string's opener too. Positions are the text's; spans are moved by `shift`. Where nothing is `listed` the list has no end, and its arrays no places. The mode is kept beside the
-// cursor, so that the stack is read after a closer alone.
-pub(crate) fn run(
+// cursor, so that the stack is read after a closer alone. Kept: the four arrays one by one, since behind structs that are lent they are looked up again at each write. Always inlined in `run`: apart from it the loop takes 6 % more time on ASCII and varied notes, and 3 % less on the move table.
+#[inline(always)]
+fn run_in(
     doc: u32,
     shift: usize,
     text: &[u8],
     from: Cursor,
-    top: Opened,
+    top: Option<State>,
     stop: usize,
     listed: bool,
     to_format: bool,
@@ -240,64 +217,68 @@ pub(crate) fn run(
     words: &mut [u64],
     skinds: &mut [u8],
     swords: &mut [u64],
-) -> RunEnd
+) -> Ran
     requires { CanRun (course_of doc shift text.now stop listed to_format (lent kinds.old words.old) (lent skinds.old swords.old)) (state_at from Space (lent kinds.old words.old) (lent skinds.old swords.old)) top }
     ensures { Runs (course_of doc shift text.now stop listed to_format (lent kinds.old words.old) (lent skinds.old swords.old)) (state_at from Space (lent kinds.old words.old) (lent skinds.old swords.old)) (lent kinds.new words.new) (lent skinds.new swords.new) result }
 {
     let places = room(listed, kinds, words);
-    let stack = list::places(skinds, swords);
+    let stack_places = list::places(skinds, swords);
     let table = token::table();
     let mut mode = next::mode_of(top);
     let mut cur = from;
     let mut token = Token::Space;
+    // Kept: the place jumps by lexemes, so no range has these places.
     while cur.at < stop {
         let at = cur.at;
         let answer = next::next(&table, text, at, mode);
-        let Step::Found(lexeme) = answer else {
+        let Ok(lexeme) = answer else {
             return refused_step(answer, cur);
         };
         let end = lexeme.end;
         let kind = lexeme.kind;
         token = lexeme.token;
         if kind == kind::SPACE {
-            cur = past_space(cur, end);
+            cur = cur.past_space(end);
         } else {
             let entry = Entry {
-                kind: kind,
+                kind,
                 at: pack(doc, shift + at, shift + end),
             };
             let place = cur.lexemes;
             if token::opens(kind) {
                 let depth = cur.depth;
-                if stack <= depth {
-                    return no_room(cur, at, end, refusal::STACK_FULL);
+                if stack_places <= depth {
+                    return no_room(cur, at, end, Reason::StackFull);
                 }
                 if places <= place {
-                    return no_room(cur, at, end, refusal::LIST_FULL);
+                    return no_room(cur, at, end, Reason::ListFull);
                 }
                 list::put(kinds, words, place, entry);
                 list::put(skinds, swords, depth, entry);
-                cur = past_opener(cur, kind, end);
+                cur = cur.past_opener(kind, end);
                 mode = next::mode_of(token::opened_by(token));
                 if ends_after(to_format, kind) {
-                    return RunEnd::Reached(cur, token);
+                    return Ran {
+                        cursor: cur,
+                        end: Ok(token),
+                    };
                 }
             } else {
                 if places <= place {
-                    return no_room(cur, at, end, refusal::LIST_FULL);
+                    return no_room(cur, at, end, Reason::ListFull);
                 }
                 list::put(kinds, words, place, entry);
                 if token::closes(kind) {
-                    cur = past_closer(cur, kind, end);
+                    cur = cur.past_closer(kind, end);
                     let depth = cur.depth;
                     mode = next::mode_of(lent::top_state(skinds, depth));
                 } else {
-                    cur = past_other(cur, kind, end);
+                    cur = cur.past_other(kind, end);
                     let space = behind(text, end, stop, mode);
                     match space {
                         Behind::Nothing => {}
                         Behind::Space(after) => {
-                            cur = past_space(cur, after);
+                            cur = cur.past_space(after);
                             token = Token::Space;
                         }
                         Behind::Blank(after) => {
@@ -307,10 +288,10 @@ pub(crate) fn run(
                             };
                             let next = cur.lexemes;
                             if places <= next {
-                                return no_room(cur, end, after, refusal::LIST_FULL);
+                                return no_room(cur, end, after, Reason::ListFull);
                             }
                             list::put(kinds, words, next, blank);
-                            cur = past_other(cur, kind::BLANK, after);
+                            cur = cur.past_other(kind::BLANK, after);
                             token = Token::Blank;
                         }
                     }
@@ -318,82 +299,83 @@ pub(crate) fn run(
             }
         }
     }
-    RunEnd::Reached(cur, token)
-}
-
-// The result where steps were refused.
-fn halted(doc: u32, ran: RunEnd, swords: &[u64]) -> Lexed
-    requires { CanHalt ran swords.now }
-    ensures { lexed_meant result ≡ halted_with doc ran swords.now }
-{
-    match ran {
-        RunEnd::Halted(cur, fault) => stopped(doc, fault, cur, swords),
-        RunEnd::Reached(cur, _) => result(Verdict::Accepted, cur),
+    Ran {
+        cursor: cur,
+        end: Ok(token),
     }
 }
 
-// Lex an input document into tokens: kind codes to `kinds`, the two words of each span to `words`. What is open goes to a stack, kind codes to `skinds` and span words to
-// `swords`.
-pub fn lex(
+// The same in a lent list and a lent stack.
+pub(crate) fn run(
     doc: u32,
+    shift: usize,
     text: &[u8],
-    kinds: &mut [u8],
-    words: &mut [u64],
-    skinds: &mut [u8],
-    swords: &mut [u64],
-) -> Lexed
-    ensures { Lexes doc text.now (lent kinds.old words.old) (lent skinds.old swords.old) (lexed_meant result) (lent kinds.new words.new) (lent skinds.new swords.new) }
+    from: Cursor,
+    top: Option<State>,
+    stop: usize,
+    listed: bool,
+    to_format: bool,
+    list: &mut ListMut<'_>,
+    stack: &mut ListMut<'_>,
+) -> Ran
+    requires { CanRun (course_of doc shift text.now stop listed to_format (lent_in list.old) (lent_in stack.old)) (state_at from Space (lent_in list.old) (lent_in stack.old)) top }
+    ensures runs { Runs (course_of doc shift text.now stop listed to_format (lent_in list.old) (lent_in stack.old)) (state_at from Space (lent_in list.old) (lent_in stack.old)) (lent_in list.new) (lent_in stack.new) result }
+    ensures same_list { SameArrays list.old list.new }
+    ensures same_stack { SameArrays stack.old stack.new }
 {
-    let start = Cursor {
-        at: 0,
-        depth: 0,
-        lexemes: 0,
-        spaces: 0,
-        dropped: 0,
-        deepest: 0,
-    };
+    run_in(
+        doc,
+        shift,
+        text,
+        from,
+        top,
+        stop,
+        listed,
+        to_format,
+        list.kinds,
+        list.words,
+        stack.kinds,
+        stack.words,
+    )
+}
+
+// Lex an input document into tokens, which go to a list. What is open goes to a stack.
+pub fn lex(doc: u32, text: &[u8], list: &mut ListMut<'_>, stack: &mut ListMut<'_>) -> Lexed
+    ensures lexes { Lexes doc text.now (lent_in list.old) (lent_in stack.old) (lexed_meant result) (lent_in list.new) (lent_in stack.new) }
+    ensures same_list { SameArrays list.old list.new }
+    ensures same_stack { SameArrays stack.old stack.new }
+{
     if rules::LIMIT < text.len() {
-        return stopped(
-            doc,
-            Fault {
-                end: 0,
-                number: refusal::TOO_LONG,
-                start: 0,
-            },
-            start,
-            swords,
-        );
+        let long = Fault {
+            end: 0,
+            reason: Reason::TooLong,
+            start: 0,
+        };
+        return stopped(doc, long, START, stack.list());
     }
-    let checked = utf8::check(text);
-    if let Checked::BadAt(bad) = checked {
-        return stopped(
-            doc,
-            Fault {
-                end: bad,
-                number: refusal::NOT_UTF8,
-                start: bad,
-            },
-            start,
-            swords,
-        );
+    if let Err(error) = utf8::check(text) {
+        let at = error.valid_up_to;
+        let bad = Fault {
+            end: at,
+            reason: Reason::NotUtf8,
+            start: at,
+        };
+        return stopped(doc, bad, START, stack.list());
     }
-    let nothing = Opened::NoOpener;
     let ran = run(
         doc,
         0,
         text,
-        start,
-        nothing,
+        START,
+        None,
         text.len(),
         true,
         false,
-        kinds,
-        words,
-        skinds,
-        swords,
+        list,
+        stack,
     );
-    let RunEnd::Reached(cur, _) = ran else {
-        return halted(doc, ran, swords);
-    };
-    report_unclosed_delimiters(doc, cur, skinds, swords)
+    match ran.end {
+        Ok(_) => report_unclosed_delimiters(doc, ran.cursor, stack.list()),
+        Err(fault) => stopped(doc, fault, ran.cursor, stack.list()),
+    }
 }

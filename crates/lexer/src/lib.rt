@@ -12,24 +12,26 @@ mod next;
 mod stepping;
 
 ghost use Rattle.std.specs.Prelude.{◌≡◌, ◌<◌, ◌^◌};
-ghost use Rattle.rules.specs.Spans.{span, low, high};
+ghost use Rattle.rules.specs.Spans.{span};
+ghost use Rattle.source.specs.Meaning.{span_meant};
 
 pub use lexing::lex;
-use source::{Refusal, Span, Verdict};
+use source::{Refusal, Span};
 pub use stepping::step_at;
 use sublexers::Fault;
-use token::{Opened, Token};
+use token::{State, Token};
 
 // What the innermost opener makes of the next step: the byte that ends an inner part beside a quote, 0 outside strings, and whether quotes are triple. Both follow from `top`.
-#[derive(Clone, Copy)]
+// Kept: 0 and no `Option`, with which a third more branches are missed on the move table, and lexing it would be under twice the Rust with both lists warm.
+#[derive(Clone, Copy, Debug, PartialEq, Eq)]
 pub struct Mode {
     pub stop: u8,
     pub triple: bool,
-    pub top: Opened,
+    pub top: Option<State>,
 }
 
 // Where the lexer stands, and what it has counted. Steps are lexemes and Spaces; the bytes that were not dropped are kept.
-#[derive(Clone, Copy)]
+#[derive(Clone, Copy, Debug, PartialEq, Eq)]
 pub struct Cursor {
     pub at: usize,
     pub depth: usize,
@@ -39,49 +41,50 @@ pub struct Cursor {
     pub deepest: usize,
 }
 
+// At a text's start nothing is counted.
+pub(crate) const START: Cursor = Cursor {
+    at: 0,
+    depth: 0,
+    lexemes: 0,
+    spaces: 0,
+    dropped: 0,
+    deepest: 0,
+};
+
 // The whitespace behind a lexeme, and where it ends.
-#[derive(Clone, Copy)]
+#[derive(Clone, Copy, Debug, PartialEq, Eq)]
 pub enum Behind {
     Nothing,
     Space(usize),
     Blank(usize),
 }
 
-// Where steps came to: to the position where they were to end, with the last one's token, or to a step that was refused.
-#[derive(Clone, Copy)]
-pub enum RunEnd {
-    Reached(Cursor, Token),
-    Halted(Cursor, Fault),
+// Where steps came to: the counts there, and the last one's token where they came to their end, or why a step was refused.
+#[derive(Clone, Copy, Debug, PartialEq, Eq)]
+pub struct Ran {
+    pub cursor: Cursor,
+    pub end: Result<Token, Fault>,
 }
 
-// A token, its kind code, so that nobody has to look it up, and its span.
-#[derive(Clone, Copy)]
+// A token and its span.
+#[derive(Clone, Copy, Debug, PartialEq, Eq)]
 pub struct TokenAt {
     pub token: Token,
-    pub kind: u8,
     pub at: Span,
 }
 
-// What a single step answers: a lexeme, a Space included; that the text has ended; or a refusal.
-#[derive(Clone, Copy)]
-pub enum StepAnswer {
-    Lexeme(TokenAt),
-    Ended,
-    Refused(Refusal),
-}
-
-// A single step's answer, and the position and depth after it.
-#[derive(Clone, Copy)]
+// A single step's answer, and the position and depth after it: a lexeme, a Space included; nothing where the text has ended; or a refusal.
+#[derive(Clone, Copy, Debug, PartialEq, Eq)]
 pub struct Stepped {
-    pub answer: StepAnswer,
+    pub answer: Result<Option<TokenAt>, Refusal>,
     pub position: usize,
     pub depth: usize,
 }
 
 // What lexing answers: of the steps that were not refused, how many, how many lexemes, how many bytes of lexemes and of spaces, and the most that was open at once.
-#[derive(Clone, Copy)]
+#[derive(Clone, Copy, Debug, PartialEq, Eq)]
 pub struct Lexed {
-    pub answer: Verdict,
+    pub answer: Result<(), Refusal>,
     pub lexemes: usize,
     pub steps: usize,
     pub kept: usize,
@@ -90,9 +93,10 @@ pub struct Lexed {
 }
 
 // The span of two offsets within the limit: no test, since the loop makes one for each lexeme.
+// Kept: a second `pack`, private like the one of `source`: both ask for offsets within the limit, and nothing that another crate can call has a `requires`.
 pub(crate) fn pack(doc: u32, start: usize, end: usize) -> Span
     requires { (start < 2 ^ 48) × (end < 2 ^ 48) }
-    ensures { (result.low ≡ low (span doc start end)) × (result.high ≡ high (span doc start end)) }
+    ensures { span_meant result ≡ span doc start end }
 {
     let s = start as u64;
     let e = end as u64;

@@ -13,13 +13,13 @@ ghost use Rattle.sublexers.specs.Quotes.{stop_of};
 ghost use Rattle.lexer.specs.Mode.{Here, mode_of};
 
 use crate::Mode;
-use rules::{class, refusal};
-use scan::Class;
+use rules::{Reason, class};
+use scan::{Control, Over127};
 use sublexers::Step;
-use token::{Opened, State};
+use token::State;
 
 // Outside strings, by the class of the first byte.
-fn next_normal(table: &[u8; 256], text: &[u8], at: usize, top: Opened) -> Step
+fn next_normal(table: &[u8; 256], text: &[u8], at: usize, top: Option<State>) -> Step
     requires { IsTable table.now × Here at text.now }
     ensures { step_meant result ≡ outcome at (outside (innermost_of top) (drop at text.now)) }
 {
@@ -28,64 +28,49 @@ fn next_normal(table: &[u8; 256], text: &[u8], at: usize, top: Opened) -> Step
     match k {
         class::WHITESPACE => sublexers::lex_in_space(text, at),
         class::CONTROL => sublexers::refused_at(
-            refusal::CONTROL_BYTE,
+            Reason::ControlByte,
             at,
-            scan::run_end(text, at, Class::Control),
+            scan::run_end(text, at, Control),
         ),
         class::DIGIT => sublexers::lex_in_number(text, at),
         class::LETTER => sublexers::lex_in_letter(table, first, text, at),
         class::PUNCTUATION => sublexers::lex_in_punct(first, text, at, top),
-        _ => sublexers::refused_at(
-            refusal::NOT_ASCII,
-            at,
-            scan::run_end(text, at, Class::Over127),
-        ),
+        _ => sublexers::refused_at(Reason::NotAscii, at, scan::run_end(text, at, Over127)),
     }
 }
 
 // The byte that, beside a quote, ends an inner part: the brace in a format string, a quote in a plain one; 0 outside strings.
-fn stop_of(top: Opened) -> u8
+#[tactic(auto, using(crate::proofs::Steps::plain_stop, crate::proofs::Steps::format_stop), unfolding(token::specs::Codes::state_code))]
+fn stop_of(top: Option<State>) -> u8
     ensures { result ≡ cond (is_quote_open (innermost_of top)) (stop_of (innermost_of top)) 0 }
 {
-    let Opened::State(state) = top else {
+    let Some(state) = top else {
         return 0;
     };
     match state {
         State::String(_) => b'"',
         State::Format(_) => b'{',
-        State::Brace => 0,
-        State::Paren => 0,
-        State::Bracket => 0,
-        State::Hole => 0,
+        State::Brace | State::Paren | State::Bracket | State::Hole => 0,
     }
 }
 
-fn triple_of(top: Opened) -> bool
+fn triple_of(top: Option<State>) -> bool
     ensures { result ≡ is_triple (innermost_of top) }
 {
-    let Opened::State(state) = top else {
-        return false;
-    };
-    match state {
-        State::String(style) => token::is_triple_style(style),
-        State::Format(style) => token::is_triple_style(style),
-        State::Brace => false,
-        State::Paren => false,
-        State::Bracket => false,
-        State::Hole => false,
+    match top {
+        Some(state) => state.is_triple(),
+        None => false,
     }
 }
 
 // The mode of an innermost opener: it changes only where something opens or closes, so `run` keeps it.
-pub(crate) fn mode_of(top: Opened) -> Mode
+pub(crate) fn mode_of(top: Option<State>) -> Mode
     ensures { result ≡ mode_of top }
 {
-    let stop = stop_of(top);
-    let triple = triple_of(top);
     Mode {
-        stop: stop,
-        triple: triple,
-        top: top,
+        stop: stop_of(top),
+        triple: triple_of(top),
+        top,
     }
 }
 

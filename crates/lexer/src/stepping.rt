@@ -1,27 +1,30 @@
 // One step at a position, given a stack: a turn of the loop of `lex`.
-ghost use Rattle.std.specs.Prelude.{◌≡◌};
-ghost use Rattle.rules.specs.Lent.{arrays};
+ghost use Rattle.std.specs.Prelude.{◌≡◌, ◌<◌, ◌^◌};
+ghost use Rattle.rules.specs.Reasons.{number_of};
+ghost use Rattle.rules.specs.Spans.{span};
+ghost use Rattle.rules.specs.Answers.{refused};
 ghost use Rattle.rules.specs.Walker.{nothing};
-ghost use Rattle.source.specs.Meaning.{note_meant, span_meant};
-ghost use Rattle.list.specs.Entries.{entry_meant};
-ghost use Rattle.lexer.specs.Stepping.{answer_meant, stepped_by, walker_at, Walks, top_of, misplaced_by, note_by, end_by, halted_by, StepsOn, CanStep, CanPack};
+ghost use Rattle.source.specs.Meaning.{note_meant, span_meant, refusal_meant};
+ghost use Rattle.list.specs.Entries.{entry_meant, list_meant, lent_meant, SameArrays};
+ghost use Rattle.lexer.specs.Stepping.{step_answer, stepped_by, walker_at, Walks, top_of, misplaced_by, note_by, end_by, refused_by, StepsOn, CanStep};
 
-use crate::{Cursor, RunEnd, StepAnswer, Stepped, TokenAt, lexing, pack};
-use list::Entry;
-use rules::{kind, refusal};
-use source::{Note, Refusal, Span};
+use crate::{Cursor, START, Stepped, TokenAt, lexing, pack};
+use list::{Entry, List, ListMut};
+use rules::{Reason, kind};
+use source::{Refusal, Span};
+use sublexers::Fault;
 
 // The innermost opener; where nothing is open, a Space at 0-0.
-fn top(skinds: &[u8], swords: &[u64], depth: usize) -> Entry
-    ensures { entry_meant result ≡ top_of depth (arrays skinds.now swords.now) }
+fn top(stack: List<'_>, depth: usize) -> Entry
+    ensures { entry_meant result ≡ top_of depth (list_meant stack.entry) }
 {
     if depth == 0 {
         return Entry {
             kind: kind::SPACE,
-            at: Span { low: 0, high: 0 },
+            at: source::nowhere(),
         };
     }
-    list::get(skinds, swords, depth - 1)
+    stack.get(depth - 1)
 }
 
 // Whether the position is past the end, the depth above the places, or the innermost code no opener's.
@@ -33,49 +36,54 @@ fn misplaced(text: &[u8], position: usize, depth: usize, places: usize, kind: u8
 }
 
 // Refusals 24 to 28 note the innermost opener.
-fn note_of(number: u8, depth: usize, opener: Entry) -> Note
-    ensures { note_meant result ≡ note_by number depth (entry_meant opener) }
+fn note_of(reason: Reason, depth: usize, opener: Entry) -> Option<Span>
+    ensures { note_meant result ≡ note_by (number_of reason) depth (entry_meant opener) }
 {
-    if (depth != 0) & ((refusal::ANOTHER_DUE <= number) & (number <= refusal::UNCLOSED_FORMAT)) {
-        let at = opener.at;
-        return Note::At(at);
+    match reason {
+        Reason::AnotherDue
+        | Reason::UnclosedBracket
+        | Reason::UnclosedHole
+        | Reason::UnclosedString
+        | Reason::UnclosedFormat
+            if depth != 0 => { Some(opener.at) }
+        _ => None,
     }
-    Note::None
 }
 
 // The answer at the text's end: 25 to 28 where something is open.
-fn at_end(at: Span, depth: usize, opener: Entry) -> StepAnswer
-    ensures { answer_meant result ≡ end_by (span_meant at) depth (entry_meant opener) }
+fn at_end(at: Span, depth: usize, opener: Entry) -> Result<Option<TokenAt>, Refusal>
+    ensures { step_answer result ≡ end_by (span_meant at) depth (entry_meant opener) }
 {
     if depth == 0 {
-        return StepAnswer::Ended;
+        return Ok(None);
     }
-    let number = token::unclosed_number(opener.kind);
-    let noted = opener.at;
-    StepAnswer::Refused(Refusal {
-        number: number,
-        at: at,
-        note: Note::At(noted),
+    Err(Refusal {
+        reason: token::unclosed(opener.kind),
+        at,
+        note: Some(opener.at),
     })
 }
 
 // The answer where the step was refused.
-fn refused_step(doc: u32, ran: RunEnd, depth: usize, opener: Entry) -> StepAnswer
-    requires { CanPack ran }
-    ensures { answer_meant result ≡ halted_by doc ran depth (entry_meant opener) }
+fn refused_step(doc: u32, fault: Fault, depth: usize, opener: Entry) -> Refusal
+    requires { (fault.start < 2 ^ 48) × (fault.end < 2 ^ 48) }
+    ensures { refused (refusal_meant result) ≡ refused_by (span doc fault.start fault.end) (number_of fault.reason) depth (entry_meant opener) }
 {
-    match ran {
-        RunEnd::Halted(_, fault) => {
-            let number = fault.number;
-            let at = pack(doc, fault.start, fault.end);
-            let note = note_of(number, depth, opener);
-            StepAnswer::Refused(Refusal {
-                number: number,
-                at: at,
-                note: note,
-            })
-        }
-        RunEnd::Reached(_, _) => StepAnswer::Ended,
+    Refusal {
+        reason: fault.reason,
+        at: pack(doc, fault.start, fault.end),
+        note: note_of(fault.reason, depth, opener),
+    }
+}
+
+// The walker stays where it is.
+fn stays(answer: Result<Option<TokenAt>, Refusal>, position: usize, depth: usize) -> Stepped
+    ensures { result ≡ stepped_by answer position depth }
+{
+    Stepped {
+        answer,
+        position,
+        depth,
     }
 }
 
@@ -86,22 +94,24 @@ fn step_on(
     position: usize,
     depth: usize,
     opener: Entry,
-    skinds: &mut [u8],
-    swords: &mut [u64],
+    stack: &mut ListMut<'_>,
 ) -> Stepped
-    requires { CanStep text.now position depth (entry_meant opener) (arrays skinds.old swords.old) }
-    ensures { StepsOn doc text.now position depth (entry_meant opener) (arrays skinds.old swords.old) result (arrays skinds.new swords.new) }
+    requires { CanStep text.now position depth (entry_meant opener) (lent_meant stack.old) }
+    ensures steps { StepsOn doc text.now position depth (entry_meant opener) (lent_meant stack.old) result (lent_meant stack.new) }
+    ensures same { SameArrays stack.old stack.new }
 {
     let from = Cursor {
         at: position,
-        depth: depth,
-        lexemes: 0,
-        spaces: 0,
-        dropped: 0,
+        depth,
         deepest: depth,
+        ..START
     };
     let mut kinds = [0u8; 1];
     let mut words = [0u64; 2];
+    let mut list = ListMut {
+        kinds: &mut kinds,
+        words: &mut words,
+    };
     let opened = token::state_of(opener.kind);
     let ran = lexing::run(
         doc,
@@ -112,40 +122,27 @@ fn step_on(
         position + 1,
         true,
         false,
-        &mut kinds,
-        &mut words,
-        skinds,
-        swords,
+        &mut list,
+        stack,
     );
-    let RunEnd::Reached(cur, token) = ran else {
-        return Stepped {
-            answer: refused_step(doc, ran, depth, opener),
-            position: position,
-            depth: depth,
-        };
-    };
-    let end = cur.at;
-    let at = pack(doc, position, end);
-    let lexeme = TokenAt {
-        token: token,
-        kind: kinds[0],
-        at: at,
-    };
-    Stepped {
-        answer: StepAnswer::Lexeme(lexeme),
-        position: end,
-        depth: cur.depth,
-    }
-}
-
-// The walker stays where it is.
-fn stays(answer: StepAnswer, position: usize, depth: usize) -> Stepped
-    ensures { result ≡ stepped_by answer position depth }
-{
-    Stepped {
-        answer: answer,
-        position: position,
-        depth: depth,
+    let cur = ran.cursor;
+    match ran.end {
+        Ok(token) => {
+            let end = cur.at;
+            let lexeme = TokenAt {
+                token,
+                at: pack(doc, position, end),
+            };
+            Stepped {
+                answer: Ok(Some(lexeme)),
+                position: end,
+                depth: cur.depth,
+            }
+        }
+        Err(fault) => {
+            let refusal = refused_step(doc, fault, depth, opener);
+            stays(Err(refusal), position, depth)
+        }
     }
 }
 
@@ -155,25 +152,27 @@ pub fn step_at(
     text: &[u8],
     position: usize,
     depth: usize,
-    skinds: &mut [u8],
-    swords: &mut [u64],
+    stack: &mut ListMut<'_>,
 ) -> Stepped
-    ensures { Walks text.now (walker_at doc position depth nothing) (arrays skinds.old swords.old) result (arrays skinds.new swords.new) }
+    ensures walks { Walks text.now (walker_at doc position depth nothing) (lent_meant stack.old) result (lent_meant stack.new) }
+    ensures same { SameArrays stack.old stack.new }
 {
-    let start = pack(doc, 0, 0);
+    let start = source::start_of(doc);
     if rules::LIMIT < text.len() {
-        let long = source::refuse(refusal::TOO_LONG, start);
-        return stays(StepAnswer::Refused(long), position, depth);
+        return stays(Err(source::refuse(Reason::TooLong, start)), position, depth);
     }
-    let places = list::places(skinds, swords);
-    let opener = top(skinds, swords, depth);
+    let places = stack.list().places();
+    let opener = top(stack.list(), depth);
     if misplaced(text, position, depth, places, opener.kind) {
-        let wrong = source::refuse(refusal::WRONG_FORM, start);
-        return stays(StepAnswer::Refused(wrong), position, depth);
+        return stays(
+            Err(source::refuse(Reason::WrongForm, start)),
+            position,
+            depth,
+        );
     }
     if text.len() <= position {
         let at = pack(doc, position, position);
         return stays(at_end(at, depth, opener), position, depth);
     }
-    step_on(doc, text, position, depth, opener, skinds, swords)
+    step_on(doc, text, position, depth, opener, stack)
 }

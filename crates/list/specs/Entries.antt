@@ -1,10 +1,28 @@
 -- What the entries of a list in two arrays mean.
-use Rattle.std.specs.Prelude.{ℕ, cond, List, [], ◌∷◌, ltb}
+use Rattle.std.specs.Prelude.{ℕ, cond, ◌≡◌, List, [], ◌∷◌, ltb}
 use Rattle.rules.specs.Spans.{nowhere}
 use Rattle.rules.specs.Kinds.{Space}
-use Rattle.rules.specs.Lent.{Lexeme, lexeme, Arrays, array_places, put_at}
+use Rattle.rules.specs.Lent.{Lexeme, lexeme, Arrays, arrays, array_places, put_at, Lent}
 use Rattle.source.specs.Meaning.{span_meant}
 use Rattle.list.specs.declared.Entry.{Entry}
+use Rattle.list.specs.declared.List.{List as CodeList}
+use Rattle.list.specs.declared.ListMut.{ListMut}
+
+-- the two arrays of a list that is lent to be read
+abbrev pub list_meant : CodeList → Arrays
+list_meant l = arrays l.kinds.now l.words.now
+
+-- and of one that is lent to be filled
+abbrev pub lent_meant : ListMut → Arrays
+lent_meant l = arrays l.kinds.now l.words.now
+
+-- the same as what a call that fills a list is lent
+abbrev pub lent_in : ListMut → Lent
+lent_in l = record { arrays = lent_meant l }
+
+-- the arrays are still those that were lent
+abbrev pub SameArrays : ListMut → ListMut → Type 0
+SameArrays l l' = (l'.kinds.ghost_name ≡ l.kinds.ghost_name) × (l'.words.ghost_name ≡ l.words.ghost_name)
 
 abbrev pub entry_meant : Entry → Lexeme
 entry_meant e = lexeme e.kind (span_meant e.at)

@@ -1,66 +1,65 @@
 // Writing to a lent output. "An output ends at 2^48 − 1 bytes at most"; "a piece is written whole or not".
 #![tactic(auto)]
 
-ghost use Rattle.std.specs.Prelude.{◌≡◌, ◌++◌, ◌+◌, ◌≤◌, leb, length};
-ghost use Rattle.rules.specs.Output.{end_of, overwritten};
-ghost use Rattle.output.specs.Places.{Put};
+ghost use Rattle.std.specs.Prelude.{◌≡◌, ◌++◌, ◌+◌, cond, leb, length, Ok, Err};
+ghost use Rattle.rules.specs.Output.{end_of};
+ghost use Rattle.output.specs.Places.{full, Put};
 
 use rules::LIMIT;
+use std::error::Error;
+use std::fmt;
+
+// The piece does not fit the output.
+#[derive(Clone, Copy, Debug, PartialEq, Eq)]
+pub struct Full;
+
+impl fmt::Display for Full {
+    fn fmt<W: fmt::Write>(&self, f: &mut fmt::Formatter<W>) -> fmt::Result {
+        f.write_str("the piece does not fit the output")
+    }
+}
+
+impl Error for Full {}
 
 // Where an output ends.
 pub fn end(output: &[u8]) -> usize
     ensures { result ≡ end_of output.now }
 {
-    basics::least(output.len(), LIMIT)
+    output.len().min(LIMIT)
 }
 
-// Whether so many bytes fit at a position before an end.
-pub fn fits(end: usize, position: usize, bytes: usize) -> bool
-    ensures { result ≡ leb (position + bytes) end }
+// The position behind so many bytes, where they fit before the end of the output.
+pub fn behind(output: &[u8], position: usize, bytes: usize) -> Result<usize, Full>
+    ensures { result ≡ cond (leb (position + bytes) (end_of output.now)) (Ok (position + bytes)) (Err full) }
 {
-    if end < position {
-        return false;
-    }
-    bytes <= end - position
-}
-
-// Bytes to places of the output that are there.
-fn copy(bytes: &[u8], output: &mut [u8], position: usize)
-    requires { position + length bytes.now ≤ length output.old }
-    ensures { output.new ≡ overwritten output.old position bytes.now }
-{
-    let mut i: usize = 0;
-    while i < bytes.len() {
-        output[position + i] = bytes[i];
-        i += 1;
+    match position.checked_add(bytes) {
+        Some(next) if next <= end(output) => Ok(next),
+        _ => Err(Full),
     }
 }
 
-// Writes a piece at a position, whole or not: whether it fits.
-pub fn put(piece: &[u8], output: &mut [u8], position: usize) -> bool
+// Writes a piece at a position, whole or not: the position behind it.
+pub fn put(piece: &[u8], output: &mut [u8], position: usize) -> Result<usize, Full>
     ensures { Put piece.now position output.old result output.new }
 {
-    let last = end(output);
-    if !fits(last, position, piece.len()) {
-        return false;
-    }
-    copy(piece, output, position);
-    true
+    let next = behind(output, position, piece.len())?;
+    output[position..next].copy_from_slice(piece);
+    Ok(next)
 }
 
 // The same for a piece whose bytes stand in two places.
-pub fn put_two(first: &[u8], second: &[u8], output: &mut [u8], position: usize) -> bool
+#[tactic(auto, using(crate::proofs::Overwritten::two_parts))]
+pub fn put_two(
+    first: &[u8],
+    second: &[u8],
+    output: &mut [u8],
+    position: usize,
+) -> Result<usize, Full>
     ensures { Put (first.now ++ second.now) position output.old result output.new }
 {
-    let last = end(output);
-    if !fits(last, position, first.len()) {
-        return false;
-    }
-    let next = position + first.len();
-    if !fits(last, next, second.len()) {
-        return false;
-    }
-    copy(first, output, position);
-    copy(second, output, next);
-    true
+    let next = behind(output, position, first.len() + second.len())?;
+    let middle = position + first.len();
+    output[position..middle].copy_from_slice(first);
+    output[middle..next].copy_from_slice(second);
+    Ok(next)
 }

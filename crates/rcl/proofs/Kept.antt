@@ -21,5 +21,5 @@ bad-said doc text none e h = refl
 bad-said doc text (some j) e h =
     rw (le-leb j limit (omega (arith, ((first-bad text j).0 e).inside, ltb-false limit (length text) h)))
 
-pub opening-said : (doc : ℕ) (text : List ℕ) → kept_said (kept_refusal doc (kept_of text)) ≡ kept_as doc (kept_of text)
-opening-said doc text = decide (ltb limit (length text)) (λ e. rw e) (λ e. rw e (bad-said doc text (first_bad text) refl e))
+pub opening_said : (doc : ℕ) (text : List ℕ) → kept_said (kept_refusal doc (kept_of text)) ≡ kept_as doc (kept_of text)
+opening_said doc text = decide (ltb limit (length text)) (λ e. rw e) (λ e. rw e (bad-said doc text (first_bad text) refl e))

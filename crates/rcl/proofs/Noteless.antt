@@ -17,19 +17,19 @@ use Rattle.rules.specs.Escapes.{single_scalar, unicode_scalar, scalar_of, escape
 use Rattle.rules.specs.Parts.{Effect, closes, refuses, passes, yields, Parts, no_parts, follow_effect, effect, parts_from, parts_of, in_room, parts_in, parts_call}
 use Rattle.rules.specs.Indent.{part_verdict, indent_of, indent_call}
 use Rattle.rules.specs.Value.{value_pieces, is_unbroken, Held, in_text, in_output, text_part, output_part, Valued, escape_verdict, value_written, kind_of_first, indent_taken, value_of, value_call, handed_part, hand_check}
-use Rattle.words.specs.Strings.{without_note}
+use Rattle.words.specs.Strings.{without_note, or_zero}
 
 -- an answer whose refusal has no note
-pub record Noteless {A : Type 0} (a : Answer A) : Type 0 where
-  pub same : without_note a ≡ a
+record Noteless {A : Type 0} (a : Answer A) : Type 0 where
+  same : without_note a ≡ a
 
-pub note-given : {A : Type 0} (x : A) → Noteless (given x)
+note-given : {A : Type 0} (x : A) → Noteless (given x)
 note-given x = record { same = refl }
 
-pub note-refuse : {A : Type 0} (n : ℕ) (s : Span) → Noteless {A = A} (refuse n s)
+note-refuse : {A : Type 0} (n : ℕ) (s : Span) → Noteless {A = A} (refuse n s)
 note-refuse n s = record { same = refl }
 
-pub note-cond : {A : Type 0} (b : Bool) (x y : Answer A) → Noteless x → Noteless y → Noteless (cond b x y)
+note-cond : {A : Type 0} (b : Bool) (x y : Answer A) → Noteless x → Noteless y → Noteless (cond b x y)
 note-cond true x y p q = p
 note-cond false x y p q = q
 
@@ -47,7 +47,7 @@ note-unicode : (s : Span) (ds : List ℕ) → Noteless (unicode_scalar s ds)
 unfolding unicode_scalar
 note-unicode s ds = search (note-cond, note-given, note-refuse) depth 40
 
-pub note-scalar : (text : List ℕ) (s : Span) (k : ℕ) → Noteless (escape_scalar text s k)
+note-scalar : (text : List ℕ) (s : Span) (k : ℕ) → Noteless (escape_scalar text s k)
 unfolding escape_scalar scalar_of
 note-scalar text s k = search (note-single, note-unicode, note-cond, note-refuse) depth 40
 
@@ -93,7 +93,7 @@ note-put s out at (given u) p =
     let w = written (end_of out) at (piece (encode u) s ∷ []) in
     note-wrote (length w.bytes) w.verdict (note-written (end_of out) at (piece (encode u) s ∷ []))
 
-pub note-unescape : (text : List ℕ) (s : Span) (k : ℕ) (out : List ℕ) (at : ℕ) → Noteless (unescape text s k out at).answer
+note-unescape : (text : List ℕ) (s : Span) (k : ℕ) (out : List ℕ) (at : ℕ) → Noteless (unescape text s k out at).answer
 unfolding unescape
 note-unescape text s k out at = note-put s out at (escape_scalar text s k) (note-scalar text s k)
 
@@ -102,7 +102,7 @@ note-part : (text : List ℕ) (p : Lexeme) → Noteless (part_verdict text p)
 unfolding part_verdict
 note-part text p = search (note-cond, note-given, note-refuse) depth 40
 
-pub note-indent : (text : List ℕ) (list : Arrays) (n : ℕ) → Noteless (indent_call text list n)
+note-indent : (text : List ℕ) (list : Arrays) (n : ℕ) → Noteless (indent_call text list n)
 unfolding indent_call
 note-indent text list n =
     let ps = take n (contents list) in
@@ -133,11 +133,11 @@ note-room room [] a p = p
 note-room zero (q ∷ ps) a p = note-refuse ListFull q.at
 note-room (suc room) (q ∷ ps) a p = note-room room ps a p
 
-pub note-in : (room place : ℕ) (ls : List Lexeme) → Noteless (parts_in room place ls).answer
+note-in : (room place : ℕ) (ls : List Lexeme) → Noteless (parts_in room place ls).answer
 unfolding parts_in
 note-in room place ls = note-room room (parts_of place ls).found (parts_of place ls).answer (note-of place ls)
 
-pub note-parts : (list : Arrays) (count place : ℕ) (parts : Arrays) → Noteless (parts_call list count place parts).answer
+note-parts : (list : Arrays) (count place : ℕ) (parts : Arrays) → Noteless (parts_call list count place parts).answer
 unfolding parts_call
 note-parts list count place parts = note-in (array_places parts) place (lexemes_from list count place)
 
@@ -175,7 +175,7 @@ note-value-of text ls p out at h =
     (note-then inside escapes (note-first (part_verdict text) ps (note-part text)) (note-first (escape_verdict text) ps (note-escape text))))
     (note-value-written text indent ps out at)
 
-pub note-value : (text : List ℕ) (list : Arrays) (count place : ℕ) (parts : Arrays) (out : List ℕ) (at : ℕ) → Noteless (value_call text list count place parts out at).answer
+note-value : (text : List ℕ) (list : Arrays) (count place : ℕ) (parts : Arrays) (out : List ℕ) (at : ℕ) → Noteless (value_call text list count place parts out at).answer
 unfolding value_call
 note-value text list count place parts out at =
     let ls = lexemes_from list count place in
@@ -192,5 +192,28 @@ unfolding handed_part
 note-handed text out (in_text a e) = note-resolved text (span 0 a e)
 note-handed text out (in_output a e) = note-resolved out (span 0 a e)
 
-pub note-hand : (text out : List ℕ) (p : Held) → Noteless (hand_check text out p)
+note-hand : (text out : List ℕ) (p : Held) → Noteless (hand_check text out p)
 note-hand text out p = note-verdict (handed_part text out p) (note-handed text out p)
+
+note-zero : (v : Verdict) → Noteless v → Noteless (or_zero v)
+note-zero (given u) p = note-given 0
+note-zero (refused r) p = note-passed {A = Unit {0}} r p
+
+-- the same as equations, for the answer of each call
+pub scalar_noteless : (text : List ℕ) (s : Span) (k : ℕ) → without_note (escape_scalar text s k) ≡ escape_scalar text s k
+scalar_noteless text s k = (note-scalar text s k).same
+
+pub unescape_noteless : (text : List ℕ) (s : Span) (k : ℕ) (out : List ℕ) (at : ℕ) → without_note (unescape text s k out at).answer ≡ (unescape text s k out at).answer
+unescape_noteless text s k out at = (note-unescape text s k out at).same
+
+pub indent_noteless : (text : List ℕ) (list : Arrays) (n : ℕ) → without_note (indent_call text list n) ≡ indent_call text list n
+indent_noteless text list n = (note-indent text list n).same
+
+pub parts_noteless : (list : Arrays) (count place : ℕ) (parts : Arrays) → without_note (parts_call list count place parts).answer ≡ (parts_call list count place parts).answer
+parts_noteless list count place parts = (note-parts list count place parts).same
+
+pub value_noteless : (text : List ℕ) (list : Arrays) (count place : ℕ) (parts : Arrays) (out : List ℕ) (at : ℕ) → without_note (value_call text list count place parts out at).answer ≡ (value_call text list count place parts out at).answer
+value_noteless text list count place parts out at = (note-value text list count place parts out at).same
+
+pub hand_noteless : (text out : List ℕ) (p : Held) → without_note (or_zero (hand_check text out p)) ≡ or_zero (hand_check text out p)
+hand_noteless text out p = (note-zero (hand_check text out p) (note-hand text out p)).same

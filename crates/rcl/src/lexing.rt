@@ -6,6 +6,7 @@ ghost use Rattle.rules.specs.Lexing.{Lexes};
 ghost use Rattle.rules.specs.Tidy.{Tidies};
 ghost use Rattle.words.specs.Lexing.{offset_or_all, lexed_in, canonical_lexed};
 
+use list::ListMut;
 use words::{LexedWords, TidiedWords};
 
 // Where the first bad sequence begins, or 2^64 − 1 where the text is UTF-8.
@@ -13,8 +14,7 @@ use words::{LexedWords, TidiedWords};
 pub extern "C" fn rcl_utf8(text: &[u8]) -> u64
     ensures { result ≡ offset_or_all (first_bad text.now) }
 {
-    let checked = utf8::check(text);
-    words::offset(checked)
+    words::offset(utf8::check(text))
 }
 
 // Lexes a text into a lent list with a lent stack.
@@ -30,8 +30,12 @@ pub extern "C" fn rcl_lex(
     ensures lexes { Lexes doc text.now (lent kinds.old words.old) (lent skinds.old swords.old) (lexed_in result) (lent kinds.new words.new) (lent skinds.new swords.new) }
     ensures canonical { result ≡ canonical_lexed result }
 {
-    let r = lexer::lex(doc, text, kinds, words, skinds, swords);
-    words::lexed(r)
+    let mut list = ListMut { kinds, words };
+    let mut stack = ListMut {
+        kinds: skinds,
+        words: swords,
+    };
+    LexedWords::from(lexer::lex(doc, text, &mut list, &mut stack))
 }
 
 // Lexes a text into a lent list with a lent stack, then writes it tidily to an output.
@@ -48,6 +52,10 @@ pub extern "C" fn rcl_tidy(
     ensures tidies { Tidies doc text.now (lent kinds.old words.old) (lent skinds.old swords.old) output.old (lexed_in result.lexed) result.written (lent kinds.new words.new) (lent skinds.new swords.new) output.new }
     ensures canonical { result.lexed ≡ canonical_lexed result.lexed }
 {
-    let r = tidy::tidy(doc, text, kinds, words, skinds, swords, output);
-    words::tidied(r)
+    let mut list = ListMut { kinds, words };
+    let mut stack = ListMut {
+        kinds: skinds,
+        words: swords,
+    };
+    TidiedWords::from(tidy::tidy(doc, text, &mut list, &mut stack, output))
 }

@@ -1,4 +1,4 @@
-// The exported interface, for C and Rust. include/rcl.h documents each call; `words` has the structs that they answer.
+// The exported interface, for C and Rust. include/rcl.h documents each call; `words` has the structs that they answer. Kept: numbers for kinds and arrays one by one, as C lends them.
 #![tactic(auto)]
 
 mod handing;

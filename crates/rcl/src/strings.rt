@@ -9,6 +9,7 @@ ghost use Rattle.rules.specs.Indent.{indent_call};
 ghost use Rattle.rules.specs.Value.{Values};
 ghost use Rattle.words.specs.Strings.{answer_in, canonical_answer, closer_in, canonical_parted, value_in, canonical_valued};
 
+use list::{List, ListMut};
 use source::Span;
 use words::{AnswerWords, PartedWords, ValuedWords};
 
@@ -29,20 +30,18 @@ pub extern "C" fn rcl_is_keyword(bytes: &[u8]) -> bool
 }
 
 // The scalar value of an escape sequence.
+#[tactic(auto, using(crate::proofs::Noteless::scalar_noteless))]
 #[unsafe(no_mangle)]
 pub extern "C" fn rcl_scalar_value(text: &[u8], low: u64, high: u64, kind: u8) -> AnswerWords
     ensures meaning { answer_in result ≡ escape_scalar text.now (span_of low high) kind }
     ensures canonical { result ≡ canonical_answer result }
 {
-    let span = Span {
-        low: low,
-        high: high,
-    };
-    let answer = string::scalar_value(text, span, kind);
-    words::decoded(answer)
+    let span = Span { low, high };
+    AnswerWords::from(string::scalar_value(text, span, kind).map(u64::from))
 }
 
 // Writes it to an output, whole or not.
+#[tactic(auto, using(crate::proofs::Noteless::unescape_noteless))]
 #[unsafe(no_mangle)]
 pub extern "C" fn rcl_unescape_into(
     text: &[u8],
@@ -55,15 +54,13 @@ pub extern "C" fn rcl_unescape_into(
     ensures unescapes { Unescapes text.now (span_of low high) kind output.old position (answer_in result) output.new }
     ensures canonical { result ≡ canonical_answer result }
 {
-    let span = Span {
-        low: low,
-        high: high,
-    };
-    let answer = string::unescape_into(text, span, kind, output, position);
-    words::unescaped(answer)
+    let span = Span { low, high };
+    let written = string::unescape_into(text, span, kind, output, position);
+    AnswerWords::from(written.map(|bytes| bytes as u64))
 }
 
 // The indent of a parts list.
+#[tactic(auto, using(crate::proofs::Noteless::indent_noteless))]
 #[unsafe(no_mangle)]
 pub extern "C" fn rcl_count_common_leading_spaces(
     text: &[u8],
@@ -74,11 +71,12 @@ pub extern "C" fn rcl_count_common_leading_spaces(
     ensures meaning { answer_in result ≡ indent_call text.now (arrays kinds.now words.now) count }
     ensures canonical { result ≡ canonical_answer result }
 {
-    let answer = string::count_common_leading_spaces(text, kinds, words, count);
-    words::indented(answer)
+    let spaces = string::count_common_leading_spaces(text, List { kinds, words }, count);
+    AnswerWords::from(spaces.map(|spaces| spaces as u64))
 }
 
 // Lists the parts of a string.
+#[tactic(auto, using(crate::proofs::Noteless::parts_noteless))]
 #[unsafe(no_mangle)]
 pub extern "C" fn rcl_parts(
     kinds: &[u8],
@@ -91,11 +89,15 @@ pub extern "C" fn rcl_parts(
     ensures lists_parts { ListsParts (arrays kinds.now words.now) count place (arrays pkinds.old pwords.old) (closer_in result) result.parts (arrays pkinds.new pwords.new) }
     ensures canonical { result ≡ canonical_parted result }
 {
-    let r = cst::parts(kinds, words, count, place, pkinds, pwords);
-    words::parted(r)
+    let mut parts = ListMut {
+        kinds: pkinds,
+        words: pwords,
+    };
+    PartedWords::from(cst::parts(List { kinds, words }, count, place, &mut parts))
 }
 
 // The value of a string.
+#[tactic(auto, using(crate::proofs::Noteless::value_noteless))]
 #[unsafe(no_mangle)]
 pub extern "C" fn rcl_value(
     text: &[u8],
@@ -111,8 +113,17 @@ pub extern "C" fn rcl_value(
     ensures values { Values text.now (arrays kinds.now words.now) count place (arrays pkinds.old pwords.old) output.old position (value_in result) result.parts (arrays pkinds.new pwords.new) output.new }
     ensures canonical { result ≡ canonical_valued result }
 {
-    let r = value::value(
-        text, kinds, words, count, place, pkinds, pwords, output, position,
-    );
-    words::valued(r)
+    let mut parts = ListMut {
+        kinds: pkinds,
+        words: pwords,
+    };
+    ValuedWords::from(value::value(
+        text,
+        List { kinds, words },
+        count,
+        place,
+        &mut parts,
+        output,
+        position,
+    ))
 }

@@ -5,6 +5,7 @@ ghost use Rattle.rules.specs.Lexing.{Lexes};
 ghost use Rattle.rules.specs.Tally.{after_call};
 ghost use Rattle.words.specs.Lexing.{lexed_in, canonical_lexed, tally_in, tally_by};
 
+use list::ListMut;
 use tally::Tally;
 use words::CountedWords;
 
@@ -26,10 +27,14 @@ pub extern "C" fn rcl_lex_tallied(
     ensures canonical { result.lexed ≡ canonical_lexed result.lexed }
 {
     let before = Tally {
-        accepted: accepted,
-        refused: refused,
-        steps: steps,
+        accepted,
+        refused,
+        steps,
     };
-    let r = tally::lex_tallied(before, doc, text, kinds, words, skinds, swords);
-    words::counted(r)
+    let mut list = ListMut { kinds, words };
+    let mut stack = ListMut {
+        kinds: skinds,
+        words: swords,
+    };
+    CountedWords::from(tally::lex_tallied(before, doc, text, &mut list, &mut stack))
 }

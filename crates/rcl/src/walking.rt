@@ -4,15 +4,16 @@ ghost use Rattle.rules.specs.Lent.{arrays};
 ghost use Rattle.rules.specs.Walker.{kept_of};
 ghost use Rattle.words.specs.Walking.{kept_as, told_by, walking_told, canonical_stepped, StepsTo};
 
-use words::{RefusalWords, SteppedWords, Told};
+use list::ListMut;
+use words::{RefusalWords, SteppedWords};
 
 // What a walker keeps that is opened with a text.
+#[tactic(auto, using(crate::proofs::Kept::opening_said))]
 #[unsafe(no_mangle)]
 pub extern "C" fn rcl_walker_open(doc: u32, text: &[u8]) -> RefusalWords
     ensures { result ≡ kept_as doc (kept_of text.now) }
 {
-    let kept = walker::open_from(doc, text);
-    words::kept(doc, kept)
+    words::kept(doc, walker::open_from(doc, text))
 }
 
 // One step of a walker.
@@ -32,10 +33,12 @@ pub extern "C" fn rcl_walker_step(
     ensures steps_to { StepsTo (walking_told text.now doc position depth (told_by doc kept number low high) (arrays skinds.old swords.old)) result (arrays skinds.new swords.new) }
     ensures canonical { result ≡ canonical_stepped result }
 {
-    let told = words::told_by(doc, kept, number, low, high);
-    let Told::Kept(before) = told else {
+    let Ok(kept) = words::told_by(doc, kept, number, low, high) else {
         return words::wrong(doc, text.len(), position, depth);
     };
-    let r = walker::step_from(doc, text, position, depth, before, skinds, swords);
-    words::stepped(r)
+    let mut stack = ListMut {
+        kinds: skinds,
+        words: swords,
+    };
+    SteppedWords::from(walker::step_from(doc, text, position, depth, kept, &mut stack))
 }

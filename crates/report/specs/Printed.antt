@@ -39,23 +39,29 @@ abbrev pub separator : (place : ℕ) → List ℕ
 separator zero = []
 separator (suc n) = codes " "
 
-abbrev pub kind_at : List Lexeme → (place : ℕ) → List ℕ
-kind_at ls n = separator n ++ decimal (first_of (drop n ls)).kind
-
 abbrev pub span_of_entry : Span → List ℕ
 span_of_entry s = decimal s.start ++ (codes "-" ++ decimal s.end)
 
-abbrev pub span_at : List Lexeme → (place : ℕ) → List ℕ
-span_at ls n = separator n ++ span_of_entry (first_of (drop n ls)).at
+-- what the line of the kind codes says of a lexeme, and what that of the spans says
+abbrev pub kind_said : Lexeme → List ℕ
+kind_said l = decimal l.kind
+
+abbrev pub span_said : Lexeme → List ℕ
+span_said l = span_of_entry l.at
+
+abbrev pub entry_at : (said : Lexeme → List ℕ) → List Lexeme → (place : ℕ) → List ℕ
+entry_at said ls n = separator n ++ said (first_of (drop n ls))
 
 -- so many first entries of a list
+abbrev pub entries_of : (said : Lexeme → List ℕ) → List Lexeme → ℕ → List ℕ
+entries_of said ls zero = []
+entries_of said ls (suc n) = entries_of said ls n ++ entry_at said ls n
+
 abbrev pub kinds_of : List Lexeme → ℕ → List ℕ
-kinds_of ls zero = []
-kinds_of ls (suc n) = kinds_of ls n ++ kind_at ls n
+kinds_of = entries_of kind_said
 
 abbrev pub spans_of : List Lexeme → ℕ → List ℕ
-spans_of ls zero = []
-spans_of ls (suc n) = spans_of ls n ++ span_at ls n
+spans_of = entries_of span_said
 
 -- the sizes, the kind codes and the spans of what was lexed from so many bytes
 abbrev pub listed_lines : (bytes : ℕ) → Lexed → List Lexeme → List ℕ

@@ -1,15 +1,14 @@
 -- That a text which was read lies in its room, and is all that there was.
-use Rattle.std.specs.Prelude.{ℕ, ◌<◌, ◌≤◌, ◌≡◌, List, length, take}
-use Rattle.report.specs.declared.input.Input.{Input}
-use Rattle.report.specs.declared.input.Input.TheVariants.{Ended, Over, Failed}
+use Rattle.std.specs.Prelude.{ℕ, ◌<◌, ◌≤◌, ◌≡◌, List, length, take, Option, Some, None, Result, Ok, Err}
 
-abbrev pub Within : Input → List ℕ → Type 0
-Within (Ended n) room = n ≤ length room
-Within Over room = Unit {0}
-Within Failed room = Unit {0}
+-- so many bytes; or as many as fill the room; or a read that failed
+abbrev pub Within : {E : Type 0} → Result (Option ℕ) E → List ℕ → Type 0
+Within (Ok (Some n)) room = n ≤ length room
+Within (Ok None) room = Unit {0}
+Within (Err e) room = Unit {0}
 
 -- what was read of some bytes: all of them, which leave room, or as many as fill the room
-abbrev pub Reads : Input → (room bytes : List ℕ) → Type 0
-Reads (Ended n) room bytes = (n < length room) × (take n room ≡ bytes)
-Reads Over room bytes = length room ≤ length bytes
-Reads Failed room bytes = Unit {0}
+abbrev pub Reads : {E : Type 0} → Result (Option ℕ) E → (room bytes : List ℕ) → Type 0
+Reads (Ok (Some n)) room bytes = (n < length room) × (take n room ≡ bytes)
+Reads (Ok None) room bytes = length room ≤ length bytes
+Reads (Err e) room bytes = Unit {0}

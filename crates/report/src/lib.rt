@@ -5,6 +5,7 @@
 mod input;
 mod listed;
 mod print;
+mod rooms;
 mod tidied;
 
 pub use listed::print_listing;

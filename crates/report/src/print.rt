@@ -5,8 +5,8 @@ ghost use Rattle.std.specs.Io.KnownBytes.{Appends, Keeps};
 ghost use Rattle.source.specs.Meaning.{span_meant, note_meant, refusal_meant};
 ghost use Rattle.report.specs.Printed.{offsets, note_offsets, refusal_line, over_line};
 
-use rules::refusal;
-use source::{Note, Refusal, Span};
+use rules::Reason;
+use source::{Refusal, Span};
 use std::io;
 use std::io::Write;
 
@@ -23,21 +23,20 @@ fn print_offsets<W: Write>(to: &mut W, span: Span) -> io::Result<()>
     printing::print_next(to, span.end() as u64)
 }
 
-fn print_note<W: Write>(to: &mut W, note: Note) -> io::Result<()>
+fn print_note<W: Write>(to: &mut W, note: Option<Span>) -> io::Result<()>
     ensures { OnOk result (Appends (W.contents to.old) (W.contents to.new) (note_offsets (note_meant note))) }
 {
-    let Note::At(opener) = note else {
-        return Ok(());
-    };
-    print_offsets(to, opener)
+    match note {
+        Some(opener) => print_offsets(to, opener),
+        None => Ok(()),
+    }
 }
 
 // "A refusal prints `refused`, number, start, end, and note start and end if any, on one line with single spaces."
 fn print_refusal<W: Write>(to: &mut W, refusal: Refusal) -> io::Result<()>
     ensures { OnOk result (Appends (W.contents to.old) (W.contents to.new) (refusal_line (refusal_meant refusal))) }
 {
-    to.write_all(b"refused")?;
-    printing::print_next(to, refusal.number as u64)?;
+    write!(to, "refused {}", u8::from(refusal.reason))?;
     print_offsets(to, refusal.at)?;
     print_note(to, refusal.note)?;
     end_line(to)
@@ -97,6 +96,6 @@ pub(crate) fn refuse_over<W: Write, E: Write>(to: &mut W, errors: &mut E) -> boo
     refuse(
         to,
         errors,
-        source::refuse(refusal::TOO_LONG, source::nowhere()),
+        source::refuse(Reason::TooLong, source::nowhere()),
     )
 }

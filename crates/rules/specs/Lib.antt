@@ -9,6 +9,8 @@ pub mod Bytes
 pub mod Utf8
 -- "What is turned down, and where": the refusals' numbers by name
 pub mod Refusals
+-- the same of the reasons that the code gives
+pub mod Reasons
 -- "Spans"
 pub mod Spans
 -- an answer or a refusal

@@ -1,4 +1,5 @@
 // "The class of each of the 256 byte values", by the names of `Bytes.antt`.
+// Kept: numbers, as the table holds them that is lent to `lex_in_letter`, which takes any table; one of an enum would ask more of whoever lends it.
 pub const WHITESPACE: u8 = 0;
 
 pub const CONTROL: u8 = 1;

@@ -1,4 +1,5 @@
 // "Kind codes", by the names of `Kinds.antt`.
+// Kept: numbers, as the arrays hold them that C lends; their enum is `Token`.
 pub const SPACE: u8 = 0;
 
 pub const BLANK: u8 = 1;

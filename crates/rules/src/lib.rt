@@ -3,7 +3,9 @@
 
 pub mod class;
 pub mod kind;
-pub mod refusal;
+mod refusal;
+
+pub use refusal::Reason;
 
 // "at most 2^48 − 1 bytes"
 pub const LIMIT: usize = 0xffff_ffff_ffff;

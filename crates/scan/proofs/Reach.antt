@@ -1,22 +1,21 @@
 -- Laws of a scan that has come to a place: how it starts, goes on by a byte or a block, and ends.
 use Prim.Native.Nat.{ℕ, ◌+◌, ◌-◌, ◌≤◌, ◌<◌, min}
-use mathlib.Core.Bool.{Bool, true, false, cond, not}
+use mathlib.Core.Bool.{Bool, true, false, cond}
 use mathlib.Core.List.{List}
 use mathlib.Core.Path.{◌≡◌, refl, sym, ◌∙◌}
 use native.Mathlib.Decide.{dec_lt}
 use native.Mathlib.Omega.{arith}
-use lib.ListN.{length, drop, get_or}
+use lib.Dec.{ltb}
+use lib.ListN.{length, drop, get_or, length-drop}
 use lib.Seq.{drop-drop}
+use borrow.Author.Tests.{lt-ltb, le-ltb}
 use Rattle.rules.specs.Text.{run}
-use Rattle.rules.proofs.Runs.{run_more, run-stop, run-done, run_wider, run_drop}
-use Rattle.scan.specs.Reach.{Reach, Stops}
+use Rattle.rules.proofs.Runs.{run_more, run-stop, run-done, run-le, run_wider, run_drop}
+use Rattle.scan.specs.Reach.{Reach}
 
--- of a block of `n` bytes the first `j` are read: `first` is the least place at which a byte fails, and `n` where none does
-pub record Least (p : ℕ → Bool) (t : List ℕ) (at n j first : ℕ) : Type 0 where
-  pub most : first ≤ n
-  pub early : first < n → first < j
-  pub reach : Reach p t at (at + min first j)
-  pub fails : first < n → p (get_or t (at + first) 0) ≡ false
+-- of a block of `n` bytes the first `j` are read, and `r` pass in a row: their number once the byte that ends them is read, `n` till then
+abbrev pub read : (n r j : ℕ) → ℕ
+read n r j = cond (ltb r j) r n
 
 module _ {p : ℕ → Bool} {t : List ℕ} where
   -- a scan starts where it is
@@ -43,77 +42,11 @@ module _ {p : ℕ → Bool} {t : List ℕ} where
   pub done : {at i : ℕ} → length t ≤ i → Reach p t at i → i ≡ at + run p (drop at t)
   done {i = i} h x = over (run-done p t i h) x
 
-  -- a scan up to an end that has come to it
-  pub reached : {at end i : ℕ} → end ≤ i → Stops p t at end i → Reach p t at end
-  reached {end = end} {i} h x =
-      let e : end ≡ i = omega arith in
-      rw e x.reach
-
-  -- a block of which nothing is read yet has no byte that fails
-  pub least-none : {at n : ℕ} → Least p t at n 0 n
-  least-none {at} {n} =
-      let none : at + min n 0 ≡ at = omega arith in
-      record {
-        most = omega arith;
-        early = λ k. absurd (omega arith);
-        reach = rw none stay;
-        fails = λ k. absurd (omega arith);
-      }
-
-  -- one more byte of a block: the least place is now this one, if the byte fails and none before did
-  pub least_more : {at n j first : ℕ} (b : Bool) → at + j < length t → j < n → not b ≡ p (get_or t (at + j) 0) → Least p t at n j first → Least p t at n (j + 1) (min (cond b j n) first)
-  least_more {at} {n} {j} {first} true h k e x = elim (dec_lt first j) [
-    | yes l ↦
-        let old : min j first ≡ first = omega arith in
-        let here : at + min first (j + 1) ≡ at + min first j = omega arith in
-        rw old (record {
-          most = x.most;
-          early = λ m. omega arith;
-          reach = rw here x.reach;
-          fails = x.fails;
-        })
-    | no l ↦
-        let new : min j first ≡ j = omega arith in
-        let here : at + min j (j + 1) ≡ at + min first j = omega arith in
-        rw new (record {
-          most = omega arith;
-          early = λ m. omega arith;
-          reach = rw here x.reach;
-          fails = λ m. sym e;
-        })
-  ]
-  least_more {at} {n} {j} {first} false h k e x =
-      let old : min n first ≡ first = omega (arith, x.most) in
-      rw old (elim (dec_lt first j) [
-        | yes l ↦
-            let here : at + min first (j + 1) ≡ at + min first j = omega arith in
-            record {
-              most = x.most;
-              early = λ m. omega arith;
-              reach = rw here x.reach;
-              fails = x.fails;
-            }
-        | no l ↦
-            let come : at + min first j ≡ at + j = omega arith in
-            let last : n ≤ first = elim (dec_lt first n) [ yes m ↦ absurd (omega (arith, x.early m)) | no m ↦ omega arith ] in
-            let next : at + min first (j + 1) ≡ at + j + 1 = omega arith in
-            record {
-              most = x.most;
-              early = λ m. absurd (omega arith);
-              reach = rw next (more h (sym e) (rw come at x.reach));
-              fails = x.fails;
-            }
-      ])
-
-  -- all of a block is read: the scan stops at the least place
-  pub least-done : {at n j first : ℕ} → n ≤ j → Least p t at n j first → Stops p t at (at + n) (at + first)
-  least-done {at} {n} {j} {first} h x =
-      let here : at + first ≡ at + min first j = omega (arith, x.most) in
-      record {
-        reach = rw here x.reach;
-        most = omega (arith, x.most);
-        ended = λ k. run-stop p t (at + first) (x.fails (omega arith));
-      }
+  -- a scan comes to each place of a run
+  pub along : {at : ℕ} (n : ℕ) → n ≤ run p (drop at t) → Reach p t at (at + n)
+  along {at} n h =
+      let rest : run p (drop at t) ≡ n + run p (drop (at + n) t) = rw (run_drop p n (drop at t) h, drop-drop) in
+      record { up = omega arith; inside = omega (arith, run-le p (drop at t), length-drop at t); same = omega arith }
 
   -- a scan of a class is a scan of a wider one
   pub wider : {q : ℕ → Bool} {at i : ℕ} → ((b : ℕ) → p b ≡ true → q b ≡ true) → Reach p t at i → Reach q t at i
@@ -124,3 +57,24 @@ module _ {p : ℕ → Bool} {t : List ℕ} where
       let longer : run p (drop at t) ≤ run q (drop at t) = run_wider (drop at t) w in
       let rest : run q (drop at t) ≡ n + run q (drop i t) = rw (run_drop q n (drop at t) (omega arith), drop-drop, there) in
       record { up = x.up; inside = x.inside; same = omega arith }
+
+-- one more byte of a block: it ends the bytes that pass in a row, if it fails and none before did
+pub read-more : (p : ℕ → Bool) (t : List ℕ) (at n j : ℕ) {first here : ℕ} {r : Bool} (b : Bool) → at + j < length t → j < n → r ≡ p (get_or t (at + j) 0) → r ≡ b → first ≡ read n (run p (drop at t)) j → here ≡ cond b n j → min first here ≡ read n (run p (drop at t)) (j + 1)
+read-more p t at n j b h k f e x y = rw (x, y) (elim (dec_lt (run p (drop at t)) j) [
+  | yes l ↦ rw (lt-ltb (run p (drop at t)) j l, lt-ltb (run p (drop at t)) (j + 1) (omega arith)) (before b l)
+  | no l ↦ now b (sym f ∙ e) l
+])
+  where
+    before : (b : Bool) → run p (drop at t) < j → min (run p (drop at t)) (cond b n j) ≡ run p (drop at t)
+    before true l = omega arith
+    before false l = omega arith
+
+    now : (b : Bool) → p (get_or t (at + j) 0) ≡ b → (run p (drop at t) < j → ⊥) → min (read n (run p (drop at t)) j) (cond b n j) ≡ read n (run p (drop at t)) (j + 1)
+    now true e l =
+        let come : Reach p t at (at + j) = along j (omega arith) in
+        let next : Reach p t at (at + j + 1) = more h e come in
+        rw (le-ltb (run p (drop at t)) j (omega arith), le-ltb (run p (drop at t)) (j + 1) (omega arith)) (omega arith)
+    now false e l =
+        let come : Reach p t at (at + j) = along j (omega arith) in
+        let last : at + j ≡ at + run p (drop at t) = stop e come in
+        rw (le-ltb (run p (drop at t)) j (omega arith), lt-ltb (run p (drop at t)) (j + 1) (omega arith)) (omega arith)

@@ -1,5 +1,5 @@
 -- One pass over a run of whitespace: what was looked at, and what is measured so far.
-use Rattle.std.specs.Prelude.{ℕ, suc, ◌+◌, ◌-◌, ◌≤◌, ◌<◌, ◌^◌, min, ◌≡◌, false, cond, List, ◌⊎◌, ltb, length, drop, get_or}
+use Rattle.std.specs.Prelude.{ℕ, suc, ◌+◌, ◌-◌, ◌≤◌, ◌<◌, ◌^◌, min, ◌≡◌, false, cond, Bool, ◌&&◌, List, ◌⊎◌, eqb, ltb, length, drop, get_or}
 use Prim.Native.Char.{code}
 use Rattle.rules.specs.Text.{is, run}
 use Rattle.rules.specs.Bytes.{is_whitespace}
@@ -18,15 +18,15 @@ pub record LooksAs (t : List ℕ) (at most : ℕ) (r : Looked) : Type 0 where
   pub count : r.count ≡ min (suc (run (is " ") (drop at t))) most
   pub byte : r.byte ≡ cond (ltb (run (is " ") (drop at t)) most) (get_or t (at + run (is " ") (drop at t)) 0) (code " ")
 
--- nothing looked at
-abbrev pub none : Measured
-none = record { length = 0; lines = 0; looked = 0 }
-
 -- the measure after more bytes, of which all but the last are spaces
 abbrev pub further_of : Measured → Looked → Measured
 further_of m l = cond (is_whitespace l.byte)
     (record { length = m.length + l.count; lines = m.lines + cond (is "\n" l.byte) 1 0; looked = m.looked + l.count })
     (record { length = m.length + (l.count - 1); lines = m.lines; looked = m.looked + l.count })
+
+-- no byte has ended the run yet, and bytes are left
+abbrev pub goes_on : List ℕ → (at : ℕ) → Measured → Bool
+goes_on t at m = eqb m.length m.looked && ltb (at + m.length) (length t)
 
 -- no count can overflow by it
 pub record CanGrow (m : Measured) (l : Looked) : Type 0 where

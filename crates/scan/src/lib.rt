@@ -1,222 +1,234 @@
 // RCL -- A reasonable configuration language.
 // Copyright 2023 Ruud van Asseldonk
 // Licensed under the Apache License, Version 2.0 (the "License"): see NOTICE.
-// From src/lexer.rs of RCL, changed: of `take_while` and the tests that it is given; a function for each run, long ones in blocks.
+// From src/lexer.rs of RCL, changed: of `take_while` and the tests that it is given; long runs in blocks.
 
 #![tactic(auto)]
 
 // Runs of bytes: where the bytes that pass a test end. A position past the text's end is its own end.
-ghost use Rattle.std.specs.Prelude.{◌≡◌, cond, not, ◌+◌, ◌-◌, ◌≤◌, min, length, drop};
-ghost use Rattle.rules.specs.Text.{is, run};
-ghost use Rattle.rules.specs.Bytes.{is_digit, is_hex_digit, is_not_lf, is_whitespace};
-ghost use Rattle.rules.specs.Step.{is_digit_or_underscore};
+ghost use Rattle.std.specs.Prelude.{◌≡◌, ℕ, Bool, ◌||◌, ◌+◌, ◌-◌, ◌<◌, ◌≤◌, min, length, drop};
+ghost use Rattle.rules.specs.Text.{run};
+ghost use Rattle.rules.specs.Bytes.{is_digit, is_hex_digit, is_binary_digit, is_control, is_over127, is_not_lf, is_whitespace};
+ghost use Rattle.rules.specs.Utf8.{is_tail};
+ghost use Rattle.rules.specs.Step.{is_underscore, is_digit_or_underscore};
 ghost use Rattle.rules.specs.Measuring.{measured};
-ghost use Rattle.scan.specs.Classes.{passes, is_inner_for};
-ghost use Rattle.scan.specs.Measuring.{measured_meant, none, LooksAs, CanGrow, further_of, Passing};
-ghost use Rattle.scan.specs.Reach.{Stops};
+ghost use Rattle.scan.specs.Classes.{is_inner_for};
+ghost use Rattle.scan.specs.Measuring.{measured_meant, LooksAs, CanGrow, further_of, goes_on, Passing};
 
-// The runs that are read seldom, or are short.
-#[derive(Clone, Copy)]
-pub enum Class {
-    Hex,
-    HexOrUnderscore,
-    BinaryOrUnderscore,
-    Underscore,
-    Control,
-    Over127,
-    Tail,
+// A test on bytes. Kept: a trait and no closure: contracts name which bytes pass (`passes`), and a closure would need that beside it in each of them.
+pub trait ByteClass: Copy {
+    // Which bytes pass it.
+    ghost passes: { Self → ℕ → Bool };
+
+    fn has(self, b: u8) -> bool
+        ensures { result ≡ passes self b };
 }
 
+#[derive(Clone, Copy)]
+pub struct Hex;
+
+impl ByteClass for Hex {
+    ghost passes = { λ _. is_hex_digit };
+
+    fn has(self, b: u8) -> bool {
+        is_hex_digit(b)
+    }
+}
+
+#[derive(Clone, Copy)]
+pub struct HexOrUnderscore;
+
+impl ByteClass for HexOrUnderscore {
+    ghost passes = { λ _ b. is_hex_digit b || is_underscore b };
+
+    fn has(self, b: u8) -> bool {
+        is_hex_digit(b) | (b == b'_')
+    }
+}
+
+#[derive(Clone, Copy)]
+pub struct BinaryOrUnderscore;
+
+#[tactic(auto, unfolding(rules::specs::Bytes::is_binary_digit))]
+impl ByteClass for BinaryOrUnderscore {
+    ghost passes = { λ _ b. is_binary_digit b || is_underscore b };
+
+    fn has(self, b: u8) -> bool {
+        (b'0' <= b) & (b <= b'1') | (b == b'_')
+    }
+}
+
+#[derive(Clone, Copy)]
+pub struct DigitOrUnderscore;
+
+#[tactic(auto, unfolding(rules::specs::Step::is_digit_or_underscore))]
+impl ByteClass for DigitOrUnderscore {
+    ghost passes = { λ _. is_digit_or_underscore };
+
+    fn has(self, b: u8) -> bool {
+        is_digit(b) | (b == b'_')
+    }
+}
+
+#[derive(Clone, Copy)]
+pub struct Underscore;
+
+impl ByteClass for Underscore {
+    ghost passes = { λ _. is_underscore };
+
+    fn has(self, b: u8) -> bool {
+        b == b'_'
+    }
+}
+
+#[derive(Clone, Copy)]
+pub struct Control;
+
+#[tactic(auto, unfolding(rules::specs::Bytes::is_control))]
+impl ByteClass for Control {
+    ghost passes = { λ _. is_control };
+
+    fn has(self, b: u8) -> bool {
+        (b < 0x20) | (b == 0x7F)
+    }
+}
+
+#[derive(Clone, Copy)]
+pub struct Over127;
+
+#[tactic(auto, unfolding(rules::specs::Bytes::is_over127))]
+impl ByteClass for Over127 {
+    ghost passes = { λ _. is_over127 };
+
+    fn has(self, b: u8) -> bool {
+        127 < b
+    }
+}
+
+#[derive(Clone, Copy)]
+pub struct Tail;
+
+impl ByteClass for Tail {
+    ghost passes = { λ _. is_tail };
+
+    fn has(self, b: u8) -> bool {
+        (0x80 <= b) & (b <= 0xBF)
+    }
+}
+
+#[derive(Clone, Copy)]
+pub struct NotLineEnd;
+
+#[tactic(auto, unfolding(rules::specs::Bytes::is_not_lf))]
+impl ByteClass for NotLineEnd {
+    ghost passes = { λ _. is_not_lf };
+
+    fn has(self, b: u8) -> bool {
+        b != b'\n'
+    }
+}
+
+// An inner part of a string; `stop` is the brace in a format string, a quote in a plain one.
+#[derive(Clone, Copy)]
+pub struct Inner {
+    pub stop: u8,
+}
+
+#[tactic(auto, unfolding(crate::specs::Classes::is_inner_for))]
+impl ByteClass for Inner {
+    ghost passes = { λ class. is_inner_for class.stop };
+
+    fn has(self, b: u8) -> bool {
+        !((b == b'\\') | (b == b'"') | (b == b'\n') | (b == self.stop))
+    }
+}
+
+#[tactic(auto, unfolding(rules::specs::Bytes::is_digit))]
 pub fn is_digit(b: u8) -> bool
     ensures { result ≡ is_digit b }
 {
-    (b'0' <= b) & (b <= b'9')
+    b.is_ascii_digit()
 }
 
+#[tactic(auto, unfolding(rules::specs::Bytes::is_digit, rules::specs::Bytes::is_hex_digit))]
 pub fn is_hex_digit(b: u8) -> bool
     ensures { result ≡ is_hex_digit b }
 {
-    is_digit(b) | (b'a' <= b) & (b <= b'f') | (b'A' <= b) & (b <= b'F')
-}
-
-// Whether a byte is of a class.
-fn is_of(class: Class, b: u8) -> bool
-    ensures { result ≡ passes class b }
-{
-    match class {
-        Class::Hex => is_hex_digit(b),
-        Class::HexOrUnderscore => is_hex_digit(b) | (b == b'_'),
-        Class::BinaryOrUnderscore => (b'0' <= b) & (b <= b'1') | (b == b'_'),
-        Class::Underscore => b == b'_',
-        Class::Control => (b < 0x20) | (b == 0x7F),
-        Class::Over127 => 127 < b,
-        Class::Tail => (0x80 <= b) & (b <= 0xBF),
-    }
+    b.is_ascii_hexdigit()
 }
 
 // Where a run of a class ends.
-pub fn run_end(text: &[u8], at: usize, class: Class) -> usize
-    ensures { result ≡ at + run (passes class) (drop at text.now) }
+#[tactic(auto, using(crate::proofs::Reach::stay, crate::proofs::Reach::more, crate::proofs::Reach::stop, crate::proofs::Reach::done))]
+pub fn run_end<C: ByteClass>(text: &[u8], at: usize, class: C) -> usize
+    ensures { result ≡ at + run (C.passes class) (drop at text.now) }
 {
-    let mut i = at;
-    while i < text.len() {
-        if !is_of(class, text[i]) {
+    if text.len() <= at {
+        return at;
+    }
+    for i in at..text.len() {
+        if !class.has(text[i]) {
             return i;
         }
-        i += 1;
     }
-    i
+    text.len()
 }
 
-// Where digits and underscores end.
-pub fn digits_end(text: &[u8], at: usize) -> usize
-    ensures { result ≡ at + run is_digit_or_underscore (drop at text.now) }
+// How many bytes of a block of `N` pass before the first that does not, `N` where none does not: a loop without an exit, so that it is done in one go. Its counts are bytes, so that as many of them are held at once as bytes of the text.
+fn run_in_block<C: ByteClass, const N: u8>(text: &[u8], at: usize, class: C) -> u8
+    requires { at + N ≤ length text.now }
+    ensures { result ≡ min N (run (C.passes class) (drop at text.now)) }
 {
+    let mut first = N;
+    for j in 0..N {
+        let here = if class.has(text[at + j as usize]) {
+            N
+        } else {
+            j
+        };
+        first = first.min(here);
+    }
+    first
+}
+
+// Where a run of a class ends that is often long: blocks of `N` bytes until one has its end.
+#[tactic(auto, using(crate::proofs::Reach::join, crate::proofs::Reach::along))]
+fn run_end_by_blocks<C: ByteClass, const N: u8>(text: &[u8], at: usize, class: C) -> usize
+    requires { 0 < N }
+    ensures { result ≡ at + run (C.passes class) (drop at text.now) }
+{
+    // Kept: from block to block by hand, since behind the last whole block `run_end` goes on from the place that this came to.
+    let last = text.len().saturating_sub(N as usize - 1);
     let mut i = at;
-    while i < text.len() {
-        let b = text[i];
-        if !(is_digit(b) | (b == b'_')) {
-            return i;
+    while i < last {
+        let passed = run_in_block::<C, N>(text, i, class);
+        if passed < N {
+            return i + passed as usize;
         }
-        i += 1;
+        i += N as usize;
     }
-    i
+    run_end(text, i, class)
 }
 
-// Before this place more than `least` bytes are left.
-fn room(text: &[u8], least: usize) -> usize
-    ensures { result ≡ length text.now - least }
-{
-    let n = text.len();
-    if n < least {
-        return 0;
-    }
-    n - least
-}
-
-// The smaller of two bytes.
-fn smaller(a: u8, b: u8) -> u8
-    ensures { result ≡ min a b }
-{
-    if a < b {
-        return a;
-    }
-    b
-}
-
-// Where in 64 bytes the first LF stands, 64 where none does: a loop without an exit, so that it is done in one go. Its counts are bytes, so that as many of them are held at once as bytes of the text.
-fn line_first(text: &[u8], at: usize) -> usize
-    requires { at + 64 ≤ length text.now }
-    ensures { Stops is_not_lf text.now at (at + 64) (at + result) }
-{
-    let mut first = 64u8;
-    let mut j = 0u8;
-    while j < 64 {
-        let b = text[at + j as usize];
-        first = smaller(basics::pick(b == b'\n', j, 64), first);
-        j += 1;
-    }
-    first as usize
-}
-
-// The end of a line byte by byte: for the last bytes of a text.
-#[tactic(auto, using(crate::proofs::Reach::stay, crate::proofs::Reach::more, crate::proofs::Reach::stop, crate::proofs::Reach::done), unfolding(rules::specs::Bytes::is_not_lf))]
-fn line_bytes(text: &[u8], at: usize) -> usize
-    ensures { result ≡ at + run is_not_lf (drop at text.now) }
-{
-    let mut i = at;
-    while i < text.len() {
-        if text[i] == b'\n' {
-            return i;
-        }
-        i += 1;
-    }
-    i
-}
-
-// The end of a line, before its LF: blocks of 64 bytes until one has it.
+// The end of a line, before its LF.
 pub fn line_end(text: &[u8], at: usize) -> usize
     ensures { result ≡ at + run is_not_lf (drop at text.now) }
 {
-    let last = room(text, 63);
-    let mut i = at;
-    while i < last {
-        let first = line_first(text, i);
-        if first < 64 {
-            return i + first;
-        }
-        i += 64;
-    }
-    line_bytes(text, i)
+    run_end_by_blocks::<NotLineEnd, 64>(text, at, NotLineEnd)
 }
 
-// Whether a byte ends an inner part of a string; `stop` is the brace in a format string, a quote in a plain one.
-fn ends_inner(b: u8, stop: u8) -> bool
-    ensures { not result ≡ is_inner_for stop b }
-{
-    (b == b'\\') | (b == b'"') | (b == b'\n') | (b == stop)
-}
-
-// Where in 48 bytes the first one stands that ends an inner part, 48 where none does: a loop without an exit, like `line_first`. The size was chosen by measuring.
-fn inner_first(text: &[u8], at: usize, stop: u8) -> usize
-    requires { at + 48 ≤ length text.now }
-    ensures { Stops (is_inner_for stop) text.now at (at + 48) (at + result) }
-{
-    let mut first = 48u8;
-    let mut j = 0u8;
-    while j < 48 {
-        let b = text[at + j as usize];
-        first = smaller(basics::pick(ends_inner(b, stop), j, 48), first);
-        j += 1;
-    }
-    first as usize
-}
-
-// Where an inner part ends, byte by byte: for the last bytes of a text.
-fn inner_bytes(text: &[u8], at: usize, stop: u8) -> usize
-    ensures { result ≡ at + run (is_inner_for stop) (drop at text.now) }
-{
-    let mut i = at;
-    while i < text.len() {
-        if ends_inner(text[i], stop) {
-            return i;
-        }
-        i += 1;
-    }
-    i
-}
-
-// Where an inner part ends: blocks of 48 bytes until one has its end.
-fn inner_blocks(text: &[u8], at: usize, stop: u8) -> usize
-    ensures { result ≡ at + run (is_inner_for stop) (drop at text.now) }
-{
-    let last = room(text, 47);
-    let mut i = at;
-    while i < last {
-        let first = inner_first(text, i, stop);
-        if first < 48 {
-            return i + first;
-        }
-        i += 48;
-    }
-    inner_bytes(text, i, stop)
-}
-
-// Where an inner part ends. Blocks are read faster where the stop is a constant, and the lexer has only these two.
+// Where an inner part ends. Kept: the two stops apart, since blocks are read faster where the stop is a constant, and the lexer has only these two. Their size was chosen by measuring.
 pub fn inner_end(text: &[u8], at: usize, stop: u8) -> usize
     ensures { result ≡ at + run (is_inner_for stop) (drop at text.now) }
 {
-    if stop == b'"' {
-        return inner_blocks(text, at, b'"');
+    match stop {
+        b'"' => run_end_by_blocks::<Inner, 48>(text, at, Inner { stop: b'"' }),
+        b'{' => run_end_by_blocks::<Inner, 48>(text, at, Inner { stop: b'{' }),
+        _ => run_end(text, at, Inner { stop }),
     }
-    if stop == b'{' {
-        return inner_blocks(text, at, b'{');
-    }
-    inner_bytes(text, at, stop)
 }
 
 // A run of whitespace: how long it is, how many line ends it has, and how many bytes were looked at to measure it. The run goes on where these are as many as it is long; one more is the byte that ends it.
-#[derive(Clone, Copy)]
+#[derive(Clone, Copy, Default)]
 pub struct Measured {
     pub length: usize,
     pub lines: usize,
@@ -230,20 +242,11 @@ struct Looked {
     count: usize,
 }
 
+#[tactic(auto, unfolding(rules::specs::Bytes::is_whitespace))]
 fn is_whitespace(b: u8) -> bool
     ensures { result ≡ is_whitespace b }
 {
-    (b == b' ') | (b == b'\t') | (b == b'\n') | (b == 0x0C) | (b == b'\r')
-}
-
-// 1 for a line end, else 0.
-fn line_of(b: u8) -> usize
-    ensures { result ≡ cond (is "\n" b) 1 0 }
-{
-    if b == b'\n' {
-        return 1;
-    }
-    0
+    b.is_ascii_whitespace()
 }
 
 // Looks at `most` bytes, or at fewer until one is no space. This is the one place where whitespace is read, and each byte is counted where it is read.
@@ -251,80 +254,70 @@ fn look(text: &[u8], at: usize, most: usize) -> Looked
     requires { at + most ≤ length text.now }
     ensures { LooksAs text.now at most result }
 {
+    // Kept: a `for` over `0..most` takes 1.8 times as long on 2^20 spaces, and up to 18 % more on the other texts of bench/.
     let mut count = 0;
     while count < most {
-        let b = text[at + count];
+        let byte = text[at + count];
         count += 1;
-        if b != b' ' {
-            return Looked {
-                byte: b,
-                count: count,
-            };
+        if byte != b' ' {
+            return Looked { byte, count };
         }
     }
-    Looked {
-        byte: b' ',
-        count: count,
-    }
+    Looked { byte: b' ', count }
 }
 
 // Looks at bytes until one is no space or the text ends, eight to a turn: a loop over a given number of bytes is written out by the optimiser, each tested before the next is read.
+#[tactic(auto, using(crate::proofs::Measuring::looks_on))]
 fn spaces(text: &[u8], at: usize) -> Looked
     requires { at ≤ length text.now }
     ensures { LooksAs text.now at (length text.now - at) result }
 {
+    // Kept: a `for` over `chunks_exact(8)` costs 3 to 7 % on most of bench/'s texts; what it counts by is kept in a register through all of the lexer.
     let mut looked = 0;
     while 8 <= text.len() - (at + looked) {
         let eight = look(text, at + looked, 8);
-        let b = eight.byte;
         looked += eight.count;
-        if b != b' ' {
+        if eight.byte != b' ' {
             return Looked {
-                byte: b,
                 count: looked,
+                ..eight
             };
         }
     }
     let few = look(text, at + looked, text.len() - (at + looked));
     Looked {
-        byte: few.byte,
         count: looked + few.count,
+        ..few
     }
 }
 
-// The measure after more bytes were looked at: all of them are the run's, or all but the last one.
-fn further(run: Measured, seen: Looked) -> Measured
-    requires { CanGrow run seen }
-    ensures { result ≡ further_of run seen }
-{
-    let length = run.length;
-    let lines = run.lines;
-    let looked = run.looked;
-    let b = seen.byte;
-    let count = seen.count;
-    let before = count - 1;
-    if is_whitespace(b) {
-        return Measured {
-            length: length + count,
-            lines: lines + line_of(b),
-            looked: looked + count,
-        };
+impl Measured {
+    // The measure after more bytes were looked at: all of them are the run's, or all but the last one.
+    fn further(self, seen: Looked) -> Measured
+        requires { CanGrow self seen }
+        ensures { result ≡ further_of self seen }
+    {
+        let before = seen.count - 1;
+        if is_whitespace(seen.byte) {
+            return Measured {
+                length: self.length + seen.count,
+                lines: self.lines + usize::from(seen.byte == b'\n'),
+                looked: self.looked + seen.count,
+            };
+        }
+        Measured {
+            length: self.length + before,
+            lines: self.lines,
+            looked: self.looked + seen.count,
+        }
     }
-    Measured {
-        length: length + before,
-        lines: lines,
-        looked: looked + count,
-    }
-}
 
-// Nothing looked at yet.
-fn unmeasured() -> Measured
-    ensures { result ≡ none }
-{
-    Measured {
-        length: 0,
-        lines: 0,
-        looked: 0,
+    // Whether no byte has ended the run that is measured from a position, and bytes are left.
+    fn goes_on(self, text: &[u8], at: usize) -> bool
+        requires { Passing text.now at self }
+        ensures { result ≡ goes_on text.now at self }
+    {
+        (self.length == self.looked) & (at + self.length < text.len())
     }
 }
 
@@ -334,42 +327,36 @@ fn rest(text: &[u8], at: usize, begun: Measured) -> Measured
     ensures { measured_meant result ≡ measured (drop at text.now) }
 {
     let mut run = begun;
-    while (run.length == run.looked) & (at + run.length < text.len()) {
-        let seen = spaces(text, at + run.length);
-        run = further(run, seen);
+    while run.goes_on(text, at) {
+        run = run.further(spaces(text, at + run.length));
     }
     run
 }
 
 // The first two bytes of a run: most runs behind a lexeme are one byte.
+#[tactic(auto, using(crate::proofs::Measuring::going, crate::proofs::Measuring::passing_more))]
 fn first_two(text: &[u8], at: usize) -> Measured
     ensures { Passing text.now at result }
 {
-    let nothing = unmeasured();
-    if text.len() <= at {
-        return nothing;
+    let mut run = Measured::default();
+    for _ in 0..2 {
+        if run.goes_on(text, at) {
+            run = run.further(look(text, at + run.length, 1));
+        }
     }
-    let seen = look(text, at, 1);
-    let first = further(nothing, seen);
-    if (first.length != first.looked) | (text.len() <= at + 1) {
-        return first;
-    }
-    let next = look(text, at + 1, 1);
-    further(first, next)
+    run
 }
 
 // Measures a run of whitespace in one pass.
 pub fn whitespace(text: &[u8], at: usize) -> Measured
     ensures { measured_meant result ≡ measured (drop at text.now) }
 {
-    let nothing = unmeasured();
-    rest(text, at, nothing)
+    rest(text, at, Measured::default())
 }
 
 // The same behind a lexeme, where the run is short: its first two bytes are looked at apart, and the pass goes on from them.
 pub fn whitespace_behind(text: &[u8], at: usize) -> Measured
     ensures { measured_meant result ≡ measured (drop at text.now) }
 {
-    let begun = first_two(text, at);
-    rest(text, at, begun)
+    rest(text, at, first_two(text, at))
 }

@@ -1,53 +1,47 @@
 -- What the code's answers mean: the paper's number and values for each case.
-use Rattle.std.specs.Prelude.{ℕ, ◌+◌}
+use Rattle.std.specs.Prelude.{ℕ, ◌+◌, Option as CodeOption, Some, None, Result, Ok, Err}
 use mathlib.Core.List.{List}
 use Rattle.std.proofs.Math.Option.{Option, none, some}
 use Rattle.std.specs.Borrow.{Bor}
-use Rattle.rules.specs.Refusals.{BadSpan, WrongForm}
-use Rattle.rules.specs.Spans.{Span as SpanRule, span_of, nowhere, bytes_at}
-use Rattle.rules.specs.Answers.{Refusal as RefusalRule, Answer, given, refused, refuse, Verdict as VerdictRule, accepted}
+use Rattle.rules.specs.Reasons.{number_of}
+use Rattle.rules.specs.Spans.{Span as SpanRule, span_of, bytes_at}
+use Rattle.rules.specs.Answers.{Refusal as RefusalRule, Answer, given, refused, Verdict as VerdictRule}
 use Rattle.rules.specs.Source.{resolved}
 use Rattle.source.specs.declared.Span.{Span}
-use Rattle.source.specs.declared.Note.{Note}
-use Rattle.source.specs.declared.Note.TheVariants.{None, At}
 use Rattle.source.specs.declared.Refusal.{Refusal}
-use Rattle.source.specs.declared.Spanned.{Spanned}
-use Rattle.source.specs.declared.Spanned.TheVariants.{Made, Refused}
-use Rattle.source.specs.declared.Length.{Length}
-use Rattle.source.specs.declared.Length.TheVariants.{Bytes, Refused as NoLength}
-use Rattle.source.specs.declared.Verdict.{Verdict}
-use Rattle.source.specs.declared.Verdict.TheVariants.{Accepted, Refused as Against}
-use Rattle.source.specs.declared.Inside.{Inside}
-use Rattle.source.specs.declared.Inside.TheVariants.{Yes, Bad, Outside}
 
 -- the span that two words name
 abbrev pub span_meant : Span → SpanRule
 span_meant s = span_of s.low s.high
 
-abbrev pub spanned_meant : Spanned → Answer SpanRule
-spanned_meant (Made s) = given (span_meant s)
-spanned_meant Refused = refuse BadSpan nowhere
-
-abbrev pub length_meant : Length → Answer ℕ
-length_meant (Bytes n) = given n
-length_meant NoLength = refuse BadSpan nowhere
-
-abbrev pub note_meant : Note → Option SpanRule
+abbrev pub note_meant : CodeOption Span → Option SpanRule
 note_meant None = none
-note_meant (At s) = some (span_meant s)
+note_meant (Some s) = some (span_meant s)
 
 abbrev pub refusal_meant : Refusal → RefusalRule
-refusal_meant r = record { number = r.number; at = span_meant r.at; note = note_meant r.note }
+refusal_meant r = record { number = number_of r.reason; at = span_meant r.at; note = note_meant r.note }
 
-abbrev pub verdict_meant : Verdict → VerdictRule
-verdict_meant Accepted = accepted
-verdict_meant (Against r) = refused (refusal_meant r)
+-- what is given, or the refusal
+abbrev pub answer_meant : {A B : Type 0} → (A → B) → Result A Refusal → Answer B
+answer_meant f (Ok x) = given (f x)
+answer_meant f (Err r) = refused (refusal_meant r)
+
+abbrev pub spanned_meant : Result Span Refusal → Answer SpanRule
+spanned_meant = answer_meant span_meant
+
+abbrev pub count_meant : Result ℕ Refusal → Answer ℕ
+count_meant = answer_meant (λ n. n)
+
+abbrev pub offsets_meant : Result (ℕ × ℕ) Refusal → Answer (ℕ × ℕ)
+offsets_meant = answer_meant (λ p. p)
+
+-- nothing is said against it, or the refusal
+abbrev pub verdict_meant : Result (Unit {0}) Refusal → VerdictRule
+verdict_meant = answer_meant (λ u. u)
 
 -- of a span and the text that it was held against
-abbrev pub inside_meant : Inside → List ℕ → SpanRule → Answer (List ℕ)
-inside_meant Yes text s = given (bytes_at text s)
-inside_meant Bad text s = refuse BadSpan nowhere
-inside_meant (Outside at) text s = refuse WrongForm (span_of at.low at.high)
+abbrev pub inside_meant : Result (Unit {0}) Refusal → List ℕ → SpanRule → Answer (List ℕ)
+inside_meant r text s = answer_meant (λ u. bytes_at text s) r
 
 -- the bytes handed out: none where the span is refused
 abbrev pub part_of : Answer (List ℕ) → List ℕ

@@ -6,65 +6,34 @@
 #![tactic(auto)]
 
 // Types for dealing with input source code.
-ghost use Rattle.std.specs.Prelude.{◌≡◌, ◌^◌, ◌<◌, not, ◌&&◌, eqb};
+ghost use Rattle.std.specs.Prelude.{◌≡◌, ◌^◌, ◌<◌, ◌≤◌, not, ◌&&◌, eqb, length, OnOk};
 ghost use Rattle.rules.specs.Spans.{span, nowhere as nowhere_rule, is_bad};
-ghost use Rattle.rules.specs.Answers.{refusal};
+ghost use Rattle.rules.specs.Answers.{refusal, given, unless_bad};
+ghost use Rattle.rules.specs.Refusals.{BadSpan};
+ghost use Rattle.rules.specs.Reasons.{number_of};
 ghost use Rattle.rules.specs.Source.{new_span, len_of, trim_start, trim_end, until_of, union_of, resolved};
-ghost use Rattle.source.specs.Meaning.{span_meant, refusal_meant, spanned_meant, length_meant, inside_meant, part_of, resolved_at};
+ghost use Rattle.source.specs.Meaning.{span_meant, refusal_meant, spanned_meant, count_meant, offsets_meant, inside_meant, part_of, resolved_at};
 
-use rules::LIMIT;
+use rules::{LIMIT, Reason};
 
 // Marks a location in a source file by byte offset. Packed, from the least significant bit: 48 bits start offset, 48 bits end offset, 32 bits document id.
-#[derive(Clone, Copy)]
+// Kept: any two words make one, as C gives them, so that it is no bad one is asked where it matters (`is_bad`) and is no invariant.
+#[derive(Clone, Copy, Debug, PartialEq, Eq)]
 pub struct Span {
     pub low: u64,
     pub high: u64,
 }
 
-// A span, or refusal 3.
-#[derive(Clone, Copy)]
-pub enum Spanned {
-    Made(Span),
-    Refused,
-}
-
-// A length in bytes, or refusal 3.
-#[derive(Clone, Copy)]
-pub enum Length {
-    Bytes(usize),
-    Refused,
-}
-
-// Whether a span lies inside a text: refusal 3, then 40 with the span.
-#[derive(Clone, Copy)]
-pub enum Inside {
-    Yes,
-    Bad,
-    Outside(Span),
-}
-
-// What is turned down: document 01's number, where, and perhaps a second place that explains it.
-#[derive(Clone, Copy)]
+// What is turned down: why, where, and perhaps a second place that explains it.
+#[derive(Clone, Copy, Debug, PartialEq, Eq)]
 pub struct Refusal {
-    pub number: u8,
+    pub reason: Reason,
     pub at: Span,
-    pub note: Note,
-}
-
-#[derive(Clone, Copy)]
-pub enum Note {
-    None,
-    At(Span),
-}
-
-// Nothing is said against it, or a refusal.
-#[derive(Clone, Copy)]
-pub enum Verdict {
-    Accepted,
-    Refused(Refusal),
+    pub note: Option<Span>,
 }
 
 // "elsewhere 0-0 is two zero words"
+#[tactic(auto, unfolding(rules::specs::Spans::span_of))]
 pub fn nowhere() -> Span
     ensures { span_meant result ≡ nowhere_rule }
 {
@@ -79,27 +48,35 @@ pub fn start_of(doc: u32) -> Span
 }
 
 // A refusal without a note.
-pub fn refuse(number: u8, at: Span) -> Refusal
-    ensures { refusal_meant result ≡ refusal number (span_meant at) }
+pub fn refuse(reason: Reason, at: Span) -> Refusal
+    ensures { refusal_meant result ≡ refusal (number_of reason) (span_meant at) }
 {
     Refusal {
-        number: number,
-        at: at,
-        note: Note::None,
+        reason,
+        at,
+        note: None,
     }
 }
 
+// "Refusal 3 carries the span 0-0"
+fn bad_span() -> Refusal
+    ensures { refusal_meant result ≡ refusal BadSpan nowhere_rule }
+{
+    refuse(Reason::BadSpan, nowhere())
+}
+
 impl Span {
-    pub fn new(doc: u32, start: usize, end: usize) -> Spanned
+    #[tactic(auto, unfolding(rules::specs::Source::new_span))]
+    pub fn new(doc: u32, start: usize, end: usize) -> Result<Span, Refusal>
         ensures { spanned_meant result ≡ new_span doc start end }
     {
         if end < start {
-            return Spanned::Refused;
+            return Err(bad_span());
         }
         if LIMIT < end {
-            return Spanned::Refused;
+            return Err(bad_span());
         }
-        Spanned::Made(Span::pack(doc, start, end))
+        Ok(Span::pack(doc, start, end))
     }
 
     // The span of two offsets that are known to be within the limit.
@@ -116,6 +93,7 @@ impl Span {
     }
 
     // Id of the document that this span belongs to.
+    #[tactic(auto, unfolding(rules::specs::Spans::span_of))]
     pub fn doc(self) -> u32
         ensures { result ≡ (span_meant self).doc }
     {
@@ -123,6 +101,7 @@ impl Span {
     }
 
     // Start byte offset of the span, inclusive.
+    #[tactic(auto, unfolding(rules::specs::Spans::span_of))]
     pub fn start(self) -> usize
         ensures { result ≡ (span_meant self).start }
     {
@@ -140,111 +119,100 @@ impl Span {
     pub fn is_bad(self) -> bool
         ensures { result ≡ is_bad (span_meant self) }
     {
-        let s = self.start();
-        let e = self.end();
-        e < s
+        self.end() < self.start()
+    }
+
+    // Its start and end, or refusal 3.
+    fn offsets(self) -> Result<(usize, usize), Refusal>
+        ensures { offsets_meant result ≡ unless_bad (span_meant self) (given ((span_meant self).start, (span_meant self).end)) }
+    {
+        if self.is_bad() {
+            return Err(bad_span());
+        }
+        Ok((self.start(), self.end()))
     }
 
     // Length of this span in bytes.
-    pub fn len(self) -> Length
-        ensures { length_meant result ≡ len_of (span_meant self) }
+    #[tactic(auto, unfolding(rules::specs::Source::len_of))]
+    pub fn len(self) -> Result<usize, Refusal>
+        ensures { count_meant result ≡ len_of (span_meant self) }
     {
-        let s = self.start();
-        let e = self.end();
-        if e < s {
-            return Length::Refused;
-        }
-        Length::Bytes(e - s)
+        let (s, e) = self.offsets()?;
+        Ok(e - s)
     }
 
-    // Whether the span lies inside a text.
-    pub fn inside(self, text: &[u8]) -> Inside
-        ensures { inside_meant result text.now (span_meant self) ≡ resolved text.now (span_meant self) }
+    // Whether the span lies inside a text: refusal 3, then 40 with the span.
+    #[tactic(auto, unfolding(rules::specs::Source::resolved))]
+    pub fn inside(self, text: &[u8]) -> Result<(), Refusal>
+        ensures resolved { inside_meant result text.now (span_meant self) ≡ resolved text.now (span_meant self) }
+        ensures within { OnOk result (((span_meant self).start ≤ (span_meant self).end) × ((span_meant self).end ≤ length text.now)) }
     {
-        let s = self.start();
-        let e = self.end();
-        if e < s {
-            return Inside::Bad;
-        }
+        let (_, e) = self.offsets()?;
         if text.len() < e {
-            return Inside::Outside(self);
+            return Err(refuse(Reason::WrongForm, self));
         }
-        Inside::Yes
+        Ok(())
     }
 
     // Delete n bytes from the start of the span.
-    pub fn trim_start(self, n: usize) -> Spanned
+    #[tactic(auto, unfolding(rules::specs::Source::trim_start))]
+    pub fn trim_start(self, n: usize) -> Result<Span, Refusal>
         ensures { spanned_meant result ≡ trim_start (span_meant self) n }
     {
-        let s = self.start();
-        let e = self.end();
-        if e < s {
-            return Spanned::Refused;
-        }
-        Spanned::Made(Span::pack(self.doc(), s + basics::least(n, e - s), e))
+        let (s, e) = self.offsets()?;
+        Ok(Span::pack(self.doc(), s + n.min(e - s), e))
     }
 
     // Delete n bytes from the end of the span.
-    pub fn trim_end(self, n: usize) -> Spanned
+    #[tactic(auto, unfolding(rules::specs::Source::trim_end))]
+    pub fn trim_end(self, n: usize) -> Result<Span, Refusal>
         ensures { spanned_meant result ≡ trim_end (span_meant self) n }
     {
-        let s = self.start();
-        let e = self.end();
-        if e < s {
-            return Spanned::Refused;
-        }
-        Spanned::Made(Span::pack(self.doc(), s, e - basics::least(n, e - s)))
+        let (s, e) = self.offsets()?;
+        Ok(Span::pack(self.doc(), s, e - n.min(e - s)))
     }
 
     // Whether two spans are of one document and neither has its start after its end.
     fn together(self, other: Span) -> bool
         ensures { result ≡ not (is_bad (span_meant self)) && not (is_bad (span_meant other)) && eqb (span_meant self).doc (span_meant other).doc }
     {
-        let s = self.start();
-        let e = self.end();
-        let t = other.start();
-        let f = other.end();
-        (s <= e) & (t <= f) & (self.doc() == other.doc())
+        !self.is_bad() && !other.is_bad() && self.doc() == other.doc()
     }
 
     // Return a span that runs from self up to but not including `other`.
-    pub fn until(self, other: Span) -> Spanned
+    #[tactic(auto, unfolding(rules::specs::Source::until_of))]
+    pub fn until(self, other: Span) -> Result<Span, Refusal>
         ensures { spanned_meant result ≡ until_of (span_meant self) (span_meant other) }
     {
         if !self.together(other) {
-            return Spanned::Refused;
+            return Err(bad_span());
         }
         Span::new(self.doc(), self.start(), other.start())
     }
 
     // Return a span that encloses both spans.
-    pub fn union(self, other: Span) -> Spanned
+    #[tactic(auto, unfolding(rules::specs::Source::union_of))]
+    pub fn union(self, other: Span) -> Result<Span, Refusal>
         ensures { spanned_meant result ≡ union_of (span_meant self) (span_meant other) }
     {
         if !self.together(other) {
-            return Spanned::Refused;
+            return Err(bad_span());
         }
-        Spanned::Made(Span::pack(
+        Ok(Span::pack(
             self.doc(),
-            basics::least(self.start(), other.start()),
-            basics::greater(self.end(), other.end()),
+            self.start().min(other.start()),
+            self.end().max(other.end()),
         ))
     }
 }
 
 // The part of a text that a span names, at its place; the text's empty start where `inside` refuses.
 pub fn resolve(text: &[u8], span: Span) -> &[u8]
-    ensures result_value { result.now ≡ part_of (resolved text.now (span_meant span)) }
-    ensures ref_ptr_value { result.ref_ptr ≡ resolved_at text.entry (span_meant span) }
+    ensures part { result.now ≡ part_of (resolved text.now (span_meant span)) }
+    ensures address { result.ref_ptr ≡ resolved_at text.entry (span_meant span) }
 {
-    let s = span.start();
-    let e = span.end();
-    let none = 0;
-    if e < s {
-        return &text[none..none];
+    match span.inside(text) {
+        Ok(()) => &text[span.start()..span.end()],
+        Err(_) => &text[..0],
     }
-    if text.len() < e {
-        return &text[none..none];
-    }
-    &text[s..e]
 }

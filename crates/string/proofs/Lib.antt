@@ -1,9 +1,12 @@
--- a test at every byte, and hex digits
-pub mod Digits
--- escapes
-pub mod Escapes
--- lines and the indent
-pub mod Lines
+-- the indent taken off a line
 pub mod Dedenting
--- the bytes that a part stands for
-pub mod PartBytes
+-- writing the bytes of an escape
+pub mod Escapes
+-- hex digits and the number that they make up
+pub mod Digits
+-- lines, parts and the indent
+pub mod Lines
+-- the first and the last byte of an identifier
+pub mod Identifiers
+-- the definitions' words on texts by the library's
+pub mod Texts

@@ -1,15 +1,13 @@
 -- Laws of lines and parts: the spaces of a line, what a part that is accepted tells, and the indent from any part on.
-use Prim.Native.Nat.{ℕ, ◌-◌, ◌<◌, min}
-use Prim.Native.Char.{Char}
-use Prim.Native.String as S
+use Prim.Native.Nat.{ℕ, min}
 use native.Mathlib.Omega.{arith}
 use mathlib.Core.Path.{◌≡◌, refl, sym, ap, ◌∙◌}
-use mathlib.Core.Bool.{Bool, true, false, cond, not, ◌&&◌, false≢true}
+use mathlib.Core.Bool.{Bool, true, false, cond, not, ◌&&◌}
 use mathlib.Core.List.{List, [], ◌∷◌, ◌++◌, append-nil}
 use lib.Dec.{leb}
-use lib.ListN.{length, take, drop, length-take, length-drop}
-use borrow.Author.Tests.{eq-eqb, ne_eqb}
+use lib.ListN.{length, take, length-take}
 use lib.Seq.{take-take, take-length}
+use Rattle.std.specs.Prelude.{Option, Some, None}
 use Rattle.rules.specs.Text.{begins}
 use Rattle.rules.specs.Refusals.{BadSpan, WrongForm}
 use Rattle.rules.specs.Spans.{nowhere, is_bad, bytes_at}
@@ -21,26 +19,6 @@ use Rattle.rules.specs.Indent.{part_verdict, is_string_part, spaces_after, is_bl
 use Rattle.list.specs.Entries.{first_of}
 use Rattle.string.specs.Meaning.{part_checked}
 use Rattle.string.specs.Indents.{fewest_meant, line_indents, part_indents, fewer}
-use Rattle.string.specs.declared.Fewest.{Fewest}
-use Rattle.string.specs.declared.Fewest.TheVariants.{None, Some}
-
--- no text without bytes begins with a character
-pub begins-none : (c : Char) (w : List ℕ) → length w ≡ 0 → begins (S.◌∷◌ c S.[]) w ≡ false
-begins-none c [] h = refl
-begins-none c (b ∷ w) h = absurd (omega arith)
-
--- a text that begins with a character has a byte
-pub begins-some : (c : Char) (w : List ℕ) → begins (S.◌∷◌ c S.[]) w ≡ true → 0 < length w
-begins-some c [] h = absurd (false≢true h)
-begins-some c (b ∷ w) h = omega arith
-
--- a line is blank where its spaces are all its bytes but the first
-pub blank-last : (w : List ℕ) → spaces_after w ≡ length w - 1 → is_blank_line w ≡ true
-blank-last w e = eq-eqb (spaces_after w) (length (drop 1 w)) (e ∙ sym (length-drop 1 w))
-
--- and is not where they are not
-pub blank-not : (w : List ℕ) → (spaces_after w ≡ length w - 1 → ⊥) → is_blank_line w ≡ false
-blank-not w n = ne_eqb (spaces_after w) (length (drop 1 w)) (λ e. n (e ∙ length-drop 1 w))
 
 -- what is told where nothing is said against a part: its span is not bad, its kind is a part's, and it ends within the text
 accepted-tells : (text : List ℕ) (p : Lexeme) → part_verdict text p ≡ accepted → (is_bad p.at ≡ false) × (between StringInner HoleOpen p.kind ≡ true) × (leb p.at.end (length text) ≡ true)
@@ -50,10 +28,10 @@ accepted-tells text p h = tells (is_bad p.at) (between StringInner HoleOpen p.ki
     tells : (a b c : Bool) → is_bad p.at ≡ a → between StringInner HoleOpen p.kind ≡ b → leb p.at.end (length text) ≡ c
         → cond a (refuse BadSpan nowhere) (cond (b && c) accepted (refuse WrongForm p.at)) ≡ accepted
         → (is_bad p.at ≡ false) × (between StringInner HoleOpen p.kind ≡ true) × (leb p.at.end (length text) ≡ true)
-    tells true b c x y z e = let w : ◌≡◌ {A = ℕ} 0 1 = cc in absurd (omega arith)
+    tells true b c x y z e = cc
     tells false true true x y z e = (x, y, z)
-    tells false true false x y z e = let w : ◌≡◌ {A = ℕ} 0 1 = cc in absurd (omega arith)
-    tells false false c x y z e = let w : ◌≡◌ {A = ℕ} 0 1 = cc in absurd (omega arith)
+    tells false true false x y z e = cc
+    tells false false c x y z e = cc
 
 -- a part that nothing is said against lies inside the text
 pub checked-inside : (text : List ℕ) (p : Lexeme) → part_verdict text p ≡ accepted → resolved text p.at ≡ given (bytes_at text p.at)
@@ -71,7 +49,7 @@ part-accepted text p q h = by (part_verdict text p) h
   where
     by : (v : Verdict) → given q ≡ and_then v (given p) → v ≡ accepted
     by (given u) e = refl
-    by (refused r) e = let w : ◌≡◌ {A = ℕ} 0 1 = cc in absurd (omega arith)
+    by (refused r) e = cc
 
 -- and it is the part that was asked for
 pub part_same : (text : List ℕ) (p q : Lexeme) → given q ≡ part_checked text p → q ≡ p
@@ -80,7 +58,7 @@ part_same text p q h = by (part_verdict text p) h
   where
     by : (v : Verdict) → given q ≡ and_then v (given p) → q ≡ p
     by (given u) e = cc
-    by (refused r) e = let w : ◌≡◌ {A = ℕ} 0 1 = cc in absurd (omega arith)
+    by (refused r) e = cc
 
 -- a part that is refused is refused by the rule
 pub part-refused : (text : List ℕ) (p : Lexeme) (r : Refusal) → refused r ≡ part_checked text p → part_verdict text p ≡ refused r
@@ -88,13 +66,13 @@ unfolding part_checked
 part-refused text p r h = by (part_verdict text p) h
   where
     by : (v : Verdict) → refused r ≡ and_then v (given p) → v ≡ refused r
-    by (given u) e = let w : ◌≡◌ {A = ℕ} 0 1 = cc in absurd (omega arith)
+    by (given u) e = cc
     by (refused s) e = cc
 
 -- whether the next part is a String is read off the first of those that follow
-pub next-first : (ps : List Lexeme) → string_next ps ≡ is_string_part (first_of ps)
-next-first [] = refl
-next-first (p ∷ ps) = refl
+pub next_first : (ps : List Lexeme) → string_next ps ≡ is_string_part (first_of ps)
+next_first [] = refl
+next_first (p ∷ ps) = refl
 
 -- what a list's first part adds stands before what the others add
 pub indents-on : (text : List ℕ) (p : Lexeme) (ps : List Lexeme) → part_verdict text p ≡ accepted → indents_of text (p ∷ ps) ≡ part_indents text (string_next ps) p ++ indents_of text ps
@@ -115,7 +93,7 @@ fewest-min n m [] = refl
 fewest-min n m (k ∷ ns) = omega arith
 
 -- and where what was counted and one more give way to the fewest of both
-fewest-fewer : (s t : Fewest) (ns : List ℕ) → fewest (fewer (fewest_meant s) (fewest_meant t) ++ ns) ≡ fewest (fewest_meant s ++ (fewest_meant t ++ ns))
+fewest-fewer : (s t : Option ℕ) (ns : List ℕ) → fewest (fewer (fewest_meant s) (fewest_meant t) ++ ns) ≡ fewest (fewest_meant s ++ (fewest_meant t ++ ns))
 fewest-fewer None t ns = refl
 fewest-fewer (Some n) None ns = refl
 fewest-fewer (Some n) (Some m) ns = fewest-min n m ns
@@ -132,7 +110,7 @@ indent-start text parts count =
     ap (λ (ps : List Lexeme). indent_from text [] ps) (sym (take-length (take count ls)) ∙ take-take (length (take count ls)) count ls (omega (arith, length-take count ls)))
 
 -- it goes on behind a part that nothing is said against
-pub indent-on : (text : List ℕ) (s t : Fewest) (p : Lexeme) (ps : List Lexeme) → part_verdict text p ≡ accepted → fewest_meant t ≡ part_indents text (string_next ps) p
+pub indent-on : (text : List ℕ) (s t : Option ℕ) (p : Lexeme) (ps : List Lexeme) → part_verdict text p ≡ accepted → fewest_meant t ≡ part_indents text (string_next ps) p
     → indent_from text (fewest_meant s) (p ∷ ps) ≡ indent_from text (fewer (fewest_meant s) (fewest_meant t)) ps
 indent-on text s t p ps h e =
     rw (h, indents-on text p ps h, ← e, fewest-fewer s t (indents_of text ps))

@@ -1,15 +1,13 @@
 -- The fewest spaces so far, as the loop carries them; and how many the indent takes off.
-use Rattle.std.specs.Prelude.{ℕ, min, Bool, cond, not, ◌&&◌, List, [], ◌∷◌}
+use Rattle.std.specs.Prelude.{ℕ, min, Bool, cond, not, ◌&&◌, List, [], ◌∷◌, Option, Some, None}
 use Rattle.rules.specs.Text.{begins}
 use Rattle.rules.specs.Source.{resolved}
 use Rattle.rules.specs.Lent.{Lexeme}
 use Rattle.rules.specs.Indent.{is_string_part, spaces_after, is_blank_line}
 use Rattle.source.specs.Meaning.{part_of}
-use Rattle.string.specs.declared.Fewest.{Fewest}
-use Rattle.string.specs.declared.Fewest.TheVariants.{None, Some}
 
 -- the spaces that have been counted, fewest first: none, or one number
-abbrev pub fewest_meant : Fewest → List ℕ
+abbrev pub fewest_meant : Option ℕ → List ℕ
 fewest_meant None = []
 fewest_meant (Some n) = n ∷ []
 

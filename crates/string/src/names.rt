@@ -10,13 +10,15 @@ ghost use Rattle.rules.specs.Bytes.{is_letter, is_identifier_byte};
 ghost use Rattle.rules.specs.Names.{is_identifier};
 
 // An ASCII letter or `_`.
+#[tactic(auto, unfolding(rules::specs::Bytes::is_letter))]
 fn is_letter(b: u8) -> bool
     ensures { result ≡ is_letter b }
 {
-    (b'a' <= b) & (b <= b'z') | (b'A' <= b) & (b <= b'Z') | (b == b'_')
+    matches!(b, b'a'..=b'z' | b'A'..=b'Z' | b'_')
 }
 
 // An ASCII letter, a digit, `_` or `-`.
+#[tactic(auto, unfolding(rules::specs::Bytes::is_identifier_byte))]
 fn is_identifier_byte(b: u8) -> bool
     ensures { result ≡ is_identifier_byte b }
 {
@@ -27,32 +29,17 @@ fn is_identifier_byte(b: u8) -> bool
 fn all_identifier_bytes(bytes: &[u8]) -> bool
     ensures { result ≡ all is_identifier_byte bytes.now }
 {
-    let mut i: usize = 0;
-    while i < bytes.len() {
-        if !is_identifier_byte(bytes[i]) {
-            return false;
-        }
-        i += 1;
-    }
-    true
+    bytes.iter().all(|b| is_identifier_byte(*b))
 }
 
 // Return whether the bytes are a valid RCL identifier.
+#[tactic(auto, using(crate::proofs::Identifiers::first_letter, crate::proofs::Identifiers::last_dash), unfolding(rules::specs::Names::is_identifier))]
 pub fn is_identifier(bytes: &[u8]) -> bool
     ensures { result ≡ is_identifier bytes.now }
 {
-    if bytes.len() == 0 {
-        return false;
-    }
-    if !is_letter(bytes[0]) {
-        return false;
-    }
-    if bytes[bytes.len() - 1] == b'-' {
-        return false;
-    }
-    if !all_identifier_bytes(bytes) {
-        return false;
-    }
-    // If it satisfied all the above, then the only reason not to be an identifier is if there is a keyword with that name.
-    !sublexers::is_keyword(bytes)
+    bytes.first().is_some_and(|b| is_letter(*b))
+        && all_identifier_bytes(bytes)
+        && bytes.last() != Some(&b'-')
+        // If they satisfy all that comes first, then the only reason not to be an identifier is if there is a keyword with that name.
+        && !sublexers::is_keyword(bytes)
 }

@@ -1,29 +1,33 @@
 // The bytes that a part of a string stands for, one by one: how many there are, and each of them. No output is needed.
-ghost use Rattle.std.specs.Prelude.{◌≡◌, ◌≤◌, length, get_or};
+ghost use Rattle.std.specs.Prelude.{◌≡◌, length, get_or};
 ghost use Rattle.rules.specs.Spans.{bytes_at};
 ghost use Rattle.rules.specs.Escapes.{escape_scalar, escape_bytes};
 ghost use Rattle.rules.specs.Value.{dedented, part_bytes};
 ghost use Rattle.source.specs.Meaning.{span_meant};
+ghost use Rattle.token.specs.Codes.{escape_code};
 ghost use Rattle.utf8.specs.Meaning.{encoded_meant};
 ghost use Rattle.cst.specs.Meaning.{part_meant};
 ghost use Rattle.string.specs.Indents.{taken_off};
 
-use crate::{Decoded, leading, unescape};
+use crate::{leading, unescape};
 use cst::StringPart;
 use source::Span;
+use token::Escape;
 use utf8::Encoded;
 
 // How many spaces the indent takes off a line: "after each leading LF, as far as spaces go".
+#[tactic(auto, unfolding(crate::specs::Indents::taken_off))]
 pub fn taken_off(line: &[u8], indent: usize) -> usize
     ensures { result ≡ taken_off indent line.now }
 {
     if !leading::starts_line(line) {
         return 0;
     }
-    basics::least(indent, leading::leading_spaces(line))
+    indent.min(leading::leading_spaces(line))
 }
 
 // How many bytes are left of a line.
+#[tactic(auto, using(crate::proofs::Dedenting::within, crate::proofs::Dedenting::dedented_length))]
 pub fn line_length(line: &[u8], indent: usize) -> usize
     ensures { result ≡ length (dedented indent line.now) }
 {
@@ -31,6 +35,7 @@ pub fn line_length(line: &[u8], indent: usize) -> usize
 }
 
 // The byte at `i` of what is left of a line, and 0 past the end.
+#[tactic(auto, using(crate::proofs::Dedenting::within, crate::proofs::Dedenting::dedented_first, crate::proofs::Dedenting::dedented_at, crate::proofs::Dedenting::dedented_past))]
 pub fn line_byte(line: &[u8], indent: usize, i: usize) -> u8
     ensures { result ≡ get_or (dedented indent line.now) i 0 }
 {
@@ -48,18 +53,16 @@ pub fn line_byte(line: &[u8], indent: usize, i: usize) -> u8
 fn bytes_at(text: &[u8], span: Span) -> &[u8]
     ensures { result.now ≡ bytes_at text.now (span_meant span) }
 {
-    let end = basics::least(span.end(), text.len());
-    let start = basics::least(span.start(), end);
+    let end = span.end().min(text.len());
+    let start = span.start().min(end);
     &text[start..end]
 }
 
 // The bytes of an escape sequence; none where it is refused.
-fn escape_bytes(text: &[u8], span: Span, kind: u8) -> Encoded
-    ensures result_value { encoded_meant result ≡ escape_bytes (escape_scalar text.now (span_meant span) kind) }
-    ensures length_in_bounds { result.length ≤ length result.bytes }
+fn escape_bytes(text: &[u8], span: Span, escape: Escape) -> Encoded
+    ensures { encoded_meant result ≡ escape_bytes (escape_scalar text.now (span_meant span) (escape_code escape)) }
 {
-    let answer = unescape::scalar_value(text, span, kind);
-    let Decoded::Scalar(u) = answer else {
+    let Ok(u) = unescape::scalar_value(text, span, u8::from(escape)) else {
         return Encoded {
             bytes: [0, 0, 0, 0],
             length: 0,
@@ -68,40 +71,29 @@ fn escape_bytes(text: &[u8], span: Span, kind: u8) -> Encoded
     utf8::encode(u)
 }
 
-fn escape_length(text: &[u8], span: Span, kind: u8) -> usize
-    ensures { result ≡ length (escape_bytes (escape_scalar text.now (span_meant span) kind)) }
-{
-    let encoded = escape_bytes(text, span, kind);
-    encoded.length
-}
-
-fn escape_byte(text: &[u8], span: Span, kind: u8, i: usize) -> u8
-    ensures { result ≡ get_or (escape_bytes (escape_scalar text.now (span_meant span) kind)) i 0 }
-{
-    let encoded = escape_bytes(text, span, kind);
-    let bytes = encoded.bytes;
-    let n = encoded.length;
-    basics::byte_at(&bytes[..n], i)
-}
-
 // How many bytes a part stands for: none for a hole, or for an escape sequence that is refused.
+#[tactic(auto, unfolding(rules::specs::Value::part_bytes, rules::specs::Escapes::escape_scalar, rules::specs::Escapes::scalar_of))]
 pub fn part_length(text: &[u8], indent: usize, part: StringPart) -> usize
     ensures { result ≡ length (part_bytes text.now indent (part_meant part)) }
 {
     match part {
         StringPart::String(span) => line_length(bytes_at(text, span), indent),
-        StringPart::Escape(span, escape) => escape_length(text, span, token::escape_code(escape)),
+        StringPart::Escape(span, escape) => escape_bytes(text, span, escape).as_bytes().len(),
         StringPart::Hole(_) => 0,
     }
 }
 
 // The byte at `i` of them, and 0 past the end.
+#[tactic(auto, unfolding(rules::specs::Value::part_bytes, rules::specs::Escapes::escape_scalar, rules::specs::Escapes::scalar_of))]
 pub fn part_byte(text: &[u8], indent: usize, part: StringPart, i: usize) -> u8
     ensures { result ≡ get_or (part_bytes text.now indent (part_meant part)) i 0 }
 {
     match part {
         StringPart::String(span) => line_byte(bytes_at(text, span), indent, i),
-        StringPart::Escape(span, escape) => escape_byte(text, span, token::escape_code(escape), i),
+        StringPart::Escape(span, escape) => basics::byte_at(
+            escape_bytes(text, span, escape).as_bytes(),
+            i,
+        ),
         StringPart::Hole(_) => 0,
     }
 }

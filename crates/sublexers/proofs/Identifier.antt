@@ -1,21 +1,20 @@
--- Laws of identifiers and keywords, as the code meets them: a byte by its class, the dashes at an end, the keywords by their length, and the step.
-use Prim.Native.Nat.{ℕ, suc, ◌+◌, ◌-◌, ◌≤◌, ◌<◌}
+-- Laws of identifiers and keywords, as the code meets them: the dashes at an end, the words that are no keyword by their length or first byte, and where an identifier ends.
+use Prim.Native.Nat.{ℕ, suc, ◌+◌, ◌-◌, ◌≤◌, ◌<◌, max}
 use Prim.Native.Char.{code}
 use mathlib.Core.Path.{◌≡◌, refl, ◌∙◌}
 use mathlib.Core.List.{List, [], ◌∷◌}
-use mathlib.Core.Bool.{Bool, true, cond, ◌&&◌, ◌||◌, and-true, and-false, and_assoc}
+use mathlib.Core.Bool.{Bool, cond, and-false}
 use native.Mathlib.Nat.{add-sub_cancel_left}
 use native.Mathlib.Omega.{arith}
-use borrow.Author.Tests.{ltb-true, le-ltb, ne_eqb}
-use lib.Dec.{ltb}
-use lib.ListN.{length, take, drop, get_or, length-drop}
+use borrow.Author.Tests.{ne_eqb}
+use Rattle.std.proofs.lemmas.Grind.{common_steps}
+use lib.ListN.{length, drop, get_or, length-drop}
 use lib.Seq.{get_or-drop, length-take-le}
 use Rattle.rules.specs.Text.{is, run}
-use Rattle.rules.specs.Kinds.{Ident, KwAnd, KwAssert, KwFalse, KwFor, KwElse, KwIf, KwImport, KwIn, KwLet, KwNot, KwNull, KwOr, KwTrace, KwTrue}
+use Rattle.rules.specs.Kinds.{Ident}
 use Rattle.rules.specs.Step.{give_back, keyword_or_ident}
-use Rattle.rules.proofs.Runs.{bytes_from, take-bytes}
-use Rattle.sublexers.specs.Outcome.{lexeme_to, outcome}
-use Rattle.sublexers.specs.Words.{identifier_by, word2, word3, word4, word5, word6, Within}
+use Rattle.rules.proofs.Bounds.{give_back-le}
+use Rattle.rules.proofs.Runs.{run-le}
 
 -- Dashes at an end: of the bytes from `at` to before `end`, those from `i` on are given back
 pub record Back (t : List ℕ) (at end i : ℕ) : Type 0 where
@@ -49,83 +48,33 @@ module _ {t : List ℕ} {at end i : ℕ} where
       let none_left : i - at ≡ 0 = omega arith in
       rw (x.same, none_left) (omega arith)
 
--- Keywords of each length, by the tests for them
-pub words2 : (a b : ℕ) {t u v : Bool} →
-    is "i" a && is "f" b ≡ t →
-    is "i" a && is "n" b ≡ u →
-    is "o" a && is "r" b ≡ v →
-    word2 a b ≡ cond t KwIf (cond u KwIn (cond v KwOr Ident))
+-- of a length that no keyword has there is none
+pub words_none : (w : List ℕ) → (2 ≤ length w → 7 ≤ length w) → keyword_or_ident w ≡ Ident
 unfolding keyword_or_ident
-words2 a b p q r = rw (← p, ← q, ← r) (simp (and-true, and-false))
+words_none [] h = refl
+words_none (a ∷ []) h = simp and-false
+words_none (a ∷ (b ∷ [])) h = absurd (omega (arith, h (omega arith)))
+words_none (a ∷ (b ∷ (c ∷ []))) h = absurd (omega (arith, h (omega arith)))
+words_none (a ∷ (b ∷ (c ∷ (d ∷ [])))) h = absurd (omega (arith, h (omega arith)))
+words_none (a ∷ (b ∷ (c ∷ (d ∷ (e ∷ []))))) h = absurd (omega (arith, h (omega arith)))
+words_none (a ∷ (b ∷ (c ∷ (d ∷ (e ∷ (f ∷ [])))))) h = absurd (omega (arith, h (omega arith)))
+words_none (a ∷ (b ∷ (c ∷ (d ∷ (e ∷ (f ∷ (g ∷ w))))))) h = simp and-false
 
-pub words3 : (a b c : ℕ) {t u v w : Bool} →
-    is "a" a && is "n" b && is "d" c ≡ t →
-    is "f" a && is "o" b && is "r" c ≡ u →
-    is "l" a && is "e" b && is "t" c ≡ v →
-    is "n" a && is "o" b && is "t" c ≡ w →
-    word3 a b c ≡ cond t KwAnd (cond u KwFor (cond v KwLet (cond w KwNot Ident)))
+-- nor is there one of six bytes that begins with neither `a` nor `i`
+pub words_six : (w : List ℕ) → length w ≡ 6 → (get_or w 0 0 ≡ code "a" → ⊥) → (get_or w 0 0 ≡ code "i" → ⊥) → Ident ≡ keyword_or_ident w
 unfolding keyword_or_ident
-words3 a b c p q r s = rw (← p, ← q, ← r, ← s) (simp (and-true, and-false, and_assoc))
+words_six (a ∷ (b ∷ (c ∷ (d ∷ (e ∷ (f ∷ [])))))) h p q = rw (ne_eqb a (code "a") p, ne_eqb a (code "i") q) (simp and-false)
+words_six [] h p q = absurd (omega arith)
+words_six (a ∷ []) h p q = absurd (omega arith)
+words_six (a ∷ (b ∷ [])) h p q = absurd (omega arith)
+words_six (a ∷ (b ∷ (c ∷ []))) h p q = absurd (omega arith)
+words_six (a ∷ (b ∷ (c ∷ (d ∷ [])))) h p q = absurd (omega arith)
+words_six (a ∷ (b ∷ (c ∷ (d ∷ (e ∷ []))))) h p q = absurd (omega arith)
+words_six (a ∷ (b ∷ (c ∷ (d ∷ (e ∷ (f ∷ (g ∷ w))))))) h p q = absurd (omega arith)
 
-pub words4 : (a b c d : ℕ) {t u v : Bool} →
-    is "e" a && is "l" b && is "s" c && is "e" d ≡ t →
-    is "n" a && is "u" b && is "l" c && is "l" d ≡ u →
-    is "t" a && is "r" b && is "u" c && is "e" d ≡ v →
-    word4 a b c d ≡ cond t KwElse (cond u KwNull (cond v KwTrue Ident))
-unfolding keyword_or_ident
-words4 a b c d p q r = rw (← p, ← q, ← r) (simp (and-true, and-false, and_assoc))
+-- an identifier lies inside the text
+pub ident_inside : (is_any : ℕ → Bool) (t : List ℕ) (at : ℕ) → at + run is_any (drop at t) ≤ max at (length t)
+ident_inside is_any t at = omega (arith, run-le is_any (drop at t), length-drop at t)
 
-pub words5 : (a b c d e : ℕ) {t u : Bool} →
-    is "f" a && is "a" b && is "l" c && is "s" d && is "e" e ≡ t →
-    is "t" a && is "r" b && is "a" c && is "c" d && is "e" e ≡ u →
-    word5 a b c d e ≡ cond t KwFalse (cond u KwTrace Ident)
-unfolding keyword_or_ident
-words5 a b c d e p q = rw (← p, ← q) (simp (and-true, and-false, and_assoc))
-
-pub words6 : (a b c d e f : ℕ) {t u : Bool} →
-    is "a" a && is "s" b && is "s" c && is "e" d && is "r" e && is "t" f ≡ t →
-    is "i" a && is "m" b && is "p" c && is "o" d && is "r" e && is "t" f ≡ u →
-    word6 a b c d e f ≡ cond t KwAssert (cond u KwImport Ident)
-unfolding keyword_or_ident
-words6 a b c d e f p q = rw (← p, ← q) (simp (and-true, and-false, and_assoc))
-
--- of any other length there is none
-pub words-none : (w : List ℕ) → (2 ≤ length w → 7 ≤ length w) → keyword_or_ident w ≡ Ident
-unfolding keyword_or_ident
-words-none [] h = refl
-words-none (a ∷ []) h = simp and-false
-words-none (a ∷ (b ∷ [])) h = absurd (omega (arith, h (omega arith)))
-words-none (a ∷ (b ∷ (c ∷ []))) h = absurd (omega (arith, h (omega arith)))
-words-none (a ∷ (b ∷ (c ∷ (d ∷ [])))) h = absurd (omega (arith, h (omega arith)))
-words-none (a ∷ (b ∷ (c ∷ (d ∷ (e ∷ []))))) h = absurd (omega (arith, h (omega arith)))
-words-none (a ∷ (b ∷ (c ∷ (d ∷ (e ∷ (f ∷ [])))))) h = absurd (omega (arith, h (omega arith)))
-words-none (a ∷ (b ∷ (c ∷ (d ∷ (e ∷ (f ∷ (g ∷ w))))))) h = simp and-false
-
-module _ {at end : ℕ} {t : List ℕ} (w : Within at end t) where
-  -- a part of a text, by its length, is its bytes
-  pub part_bytes : {n : ℕ} → end - at ≡ suc n → take (end - at) (drop at t) ≡ bytes_from t at 0 (suc n)
-  part_bytes {n} e = rw e (take-bytes t at (suc n) (omega arith))
-
-  -- a part of a length that no keyword has is none
-  pub part_none : (2 ≤ end - at → 7 ≤ end - at) → keyword_or_ident (take (end - at) (drop at t)) ≡ Ident
-  part_none h = words-none _ (rw (length-take-le (end - at) (drop at t) (omega (arith, length-drop at t))) h)
-
--- a length that no arm has
-not-two-four : (n : ℕ) → 2 ≤ n → (n ≡ 2 → ⊥) → (n ≡ 3 → ⊥) → (n ≡ 4 → ⊥) → 5 ≤ n
-not-two-four n h a b c = omega arith
-
-not-five-six : (n : ℕ) → 5 ≤ n → (n ≡ 5 → ⊥) → (n ≡ 6 → ⊥) → 7 ≤ n
-not-five-six n h a b = omega arith
-
-pub no_arm : (n : ℕ) → (n ≡ 2 → ⊥) → (n ≡ 3 → ⊥) → (n ≡ 4 → ⊥) → (n ≡ 5 → ⊥) → (n ≡ 6 → ⊥) → 2 ≤ n → 7 ≤ n
-no_arm n a b c d e h = not-five-six n (not-two-four n h a b c) d e
-
--- the code's test for such a length
-pub other_length : (n : ℕ) → ltb n 2 || ltb 6 n ≡ true → 2 ≤ n → 7 ≤ n
-other_length n e h = ltb-true 6 n (rw (le-ltb n 2 h) at e)
-
--- The outcome by position: identifier bytes up to `last`, and `end` where the dashes before it are given back
-pub identifier-at : (is_any : ℕ → Bool) (t : List ℕ) (at last end : ℕ) → last ≡ at + run is_any (drop at t) → end ≡ at + give_back (drop at t) (last - at) →
-    outcome at (identifier_by is_any (drop at t)) ≡ lexeme_to (keyword_or_ident (take (end - at) (drop at t))) end
-unfolding identifier_by
-identifier-at is_any t at last end p q = rw (q, p) (simp add-sub_cancel_left)
+-- an identifier by position
+pub ruleset identifier_steps = (common_steps, ident_inside, give_back-le, words_none, add-sub_cancel_left, length-take-le)

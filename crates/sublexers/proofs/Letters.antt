@@ -2,26 +2,27 @@
 use Prim.Native.Nat.{ℕ, suc, ◌+◌, ◌<◌}
 use mathlib.Core.Path.{◌≡◌, refl}
 use mathlib.Core.List.{List, [], ◌∷◌}
-use mathlib.Core.Bool.{Bool, true, false, cond, ◌&&◌, ◌||◌, beq, false≢true}
+use mathlib.Core.Bool.{Bool, cond, ◌&&◌, ◌||◌, beq}
 use native.Mathlib.Omega.{arith}
-use borrow.Author.Tests.{ltb-true, ltb-false}
-use lib.Dec.{eqb, ltb}
-use lib.ListN.{length, drop, get_or}
+use Rattle.std.proofs.lemmas.Grind.{common_steps}
+use lib.Dec.{eqb}
+use lib.ListN.{drop, get_or}
 use lib.Seq.{drop-drop}
 use Rattle.rules.specs.Text.{is, begins, run}
 use Rattle.rules.specs.Bytes.{is_whitespace, is_control, is_digit, is_letter, is_punctuation, is_identifier_byte, class_of, Digit, Letter}
 use Rattle.rules.specs.Kinds.{FormatDouble, FormatTriple}
 use Rattle.rules.specs.Step.{found}
-use Rattle.rules.proofs.Text.{decide, same_truth}
+use Rattle.rules.proofs.Text.{same_truth}
 use Rattle.rules.proofs.Every.{below}
-use Rattle.rules.proofs.Runs.{begins-at, begins-more, passes-inside}
+use Rattle.rules.proofs.Runs.{begins-at, begins-more}
 use Rattle.token.specs.Table.{IsTable}
 use Rattle.sublexers.specs.Words.{is_identifier_byte_in, identifier_by}
+use Rattle.sublexers.proofs.Numbers.{some_inside}
 use Rattle.sublexers.specs.ByClass.{lettered_by}
 
 -- two quotes two bytes further
-pub quotes-at : (t : List ℕ) (at : ℕ) → begins "\"\"" (drop (at + 2) t) ≡ is "\"" (get_or t (at + 2) 0) && is "\"" (get_or t (at + 3) 0)
-quotes-at t at =
+pub quotes_at : (t : List ℕ) (at : ℕ) → begins "\"\"" (drop (at + 2) t) ≡ is "\"" (get_or t (at + 2) 0) && is "\"" (get_or t (at + 3) 0)
+quotes_at t at =
     let three : at + 2 + 1 ≡ at + 3 = omega arith in
     rw (begins-more "\"" "\"" t (at + 2) refl, begins-at "\"" t (at + 2 + 1) refl, three)
 
@@ -33,20 +34,8 @@ letter_at is_any first t s at =
     let two : at + 1 + 1 ≡ at + 2 = omega arith in
     rw (begins-at "\"" t (at + 1) refl, drop-drop 1 (at + 1) t, two)
 
--- the code's test for an `f` in the text
-module _ (t : List ℕ) (at first : ℕ) where
-  pub is_f : is "f" first && ltb at (length t) ≡ true → is "f" first ≡ true
-  is_f e = decide (is "f" first) (λ f. f) (λ f. absurd (false≢true (rw f at e)))
-
-  pub has_next : is "f" first && ltb at (length t) ≡ true → at < length t
-  has_next e = ltb-true at (length t) (rw (is_f e) at e)
-
-  pub no_next : is "f" first && ltb at (length t) ≡ false → is "f" first && is "\"" (get_or t (at + 1) 0) ≡ false
-  no_next e = decide (is "f" first)
-      (λ f. decide (is "\"" (get_or t (at + 1) 0))
-      (λ q. absurd (omega (arith, ltb-false at (length t) (rw f at e), passes-inside (is "\"") t (at + 1) refl q)))
-      (λ q. rw (f, q) refl))
-      (λ f. rw f)
+-- a letter by position
+pub ruleset letter_steps = (common_steps, letter_at, quotes_at, some_inside)
 
 -- A byte, by its class: one computed test over all of them
 ident-byte : (b : ℕ) → b < 256 → eqb (class_of b) Letter || eqb (class_of b) Digit || is "-" b ≡ is_identifier_byte b

@@ -6,22 +6,20 @@ use mathlib.Core.Path.{◌≡◌, refl, sym, ap, ◌∙◌}
 use mathlib.Core.List.{List}
 use mathlib.Core.Bool.{Bool, true, false, cond, not, ◌&&◌, ◌||◌}
 use borrow.Author.Tests.{eqb-true, eqb-false, eq-eqb, ne_eqb}
-use lib.Dec.{leb, eqb}
+use Rattle.std.proofs.lemmas.Grind.{common_steps}
+use lib.Dec.{eqb}
 use lib.ListN.{drop, get_or, length}
 use lib.Seq.{drop-drop}
 use Rattle.rules.specs.Text.{is, begins, run}
 use Rattle.rules.specs.Bytes.{is_digit, is_binary_digit, is_hex_digit}
 use Rattle.rules.specs.Refusals.{NoBinaryDigit, NoHexDigit, NoFractionDigit, NoExponentDigit}
-use Rattle.rules.specs.Kinds.{Space, Blank, NumBinary, NumHexadecimal, NumDecimal}
-use Rattle.rules.specs.Step.{Step, found, stop, is_underscore, is_digit_or_underscore, int_length, exponent_mark, exponent, fraction, decimal, prefixed, number, whitespace}
+use Rattle.rules.specs.Kinds.{NumBinary, NumHexadecimal, NumDecimal}
+use Rattle.rules.specs.Step.{Step, found, stop, is_underscore, is_digit_or_underscore, int_length, exponent_mark, exponent, fraction, decimal, prefixed, number}
 use Rattle.rules.proofs.Text.{decide}
 use Rattle.rules.proofs.Runs.{starts-at, begins-more, begins-at, passes-inside}
-use Rattle.rules.specs.Measuring.{measured}
 use Rattle.rules.proofs.Measuring.{whitespace-measured}
-use Rattle.scan.specs.declared.Measured.{Measured}
-use Rattle.scan.specs.Measuring.{measured_meant}
-use Rattle.scan.proofs.Measuring.{measured-run, measured-lines}
-use Rattle.sublexers.specs.ByClass.{fraction_alone}
+use Rattle.scan.proofs.Measuring.{measured-run, measured-lines, measured-within}
+use Rattle.sublexers.specs.ByClass.{fraction_alone, prefixed_by}
 use Rattle.sublexers.specs.Outcome.{Outcome, lexeme_to, refused_at, miscoded, outcome}
 
 one_more : (n : ℕ) → 1 + n ≡ suc n
@@ -118,18 +116,18 @@ module _ (t : List ℕ) (at : ℕ) where
   pub sign_at : (begins "+" (drop at t) || begins "-" (drop at t)) ≡ is_sign (get_or t at 0)
   sign_at = rw (begins-at "+" t at refl, begins-at "-" t at refl)
 
-  pub exponent-at : outcome at (exponent 0 (drop at t)) ≡ cond (is_mark (get_or t at 0)) (digits_from t (mark_end t at)) (lexeme_to NumDecimal at)
+  pub exponent_at : outcome at (exponent 0 (drop at t)) ≡ cond (is_mark (get_or t at 0)) (digits_from t (mark_end t at)) (lexeme_to NumDecimal at)
   unfolding exponent
-  exponent-at =
+  exponent_at =
       rw (outcome-cond, outcome-cond, begins-at "e" t at refl, begins-at "E" t at refl, drop-drop (exponent_mark (drop at t)) at t, starts-at is_digit t (at + exponent_mark (drop at t)) digit-zero)
       (simp (zero-add, add-zero, ← add_assoc) (rw (mark-at t at)))
 
-  pub fraction-at : outcome at (fraction_alone (drop at t)) ≡
+  pub fraction_at : outcome at (fraction_alone (drop at t)) ≡
       cond (is "." (get_or t at 0))
       (cond (is_digit (get_or t (at + 1) 0)) (lexeme_to NumDecimal (at + 1 + run is_digit_or_underscore (drop (at + 1) t))) (refused_at NoFractionDigit at (at + 1)))
       (lexeme_to NumDecimal at)
   unfolding fraction_alone
-  fraction-at =
+  fraction_at =
       rw (outcome-cond, outcome-cond, begins-at "." t at refl, drop-drop 1 at t, starts-at is_digit t (at + 1) digit-zero)
       (simp (add-zero, ← add_assoc))
 
@@ -137,17 +135,20 @@ module _ (t : List ℕ) (at : ℕ) where
   unfolding int_length
   int_at = rw (begins-at "0" t at refl) (plus-cond (is "0" (get_or t at 0)) at 1 _)
 
-  -- `end` is where the digits and underscores after the prefix end, `under` where its first underscores end
-  pub prefixed-at : (kind refusal : ℕ) (is_any : ℕ → Bool) {end under : ℕ} → end ≡ at + 2 + run (λ b. is_any b || is_underscore b) (drop (at + 2) t) → under ≡ at + 2 + run is_underscore (drop (at + 2) t)
-      → outcome at (prefixed kind refusal is_any (drop at t)) ≡ cond (eqb under end) (refused_at refusal at end) (lexeme_to kind end)
-  unfolding prefixed
-  prefixed-at kind refusal is_any e f = rw (e, f, outcome-cond, drop-drop 2 at t) (simp (add-zero, ← add_assoc, eqb-plus))
+  -- the digits and underscores after a prefix, and the underscores alone, by their ends
+  pub prefixed_at : (kind refusal : ℕ) (goes : ℕ → Bool) →
+      outcome at (prefixed_by kind refusal goes (drop at t)) ≡
+      cond (eqb (at + 2 + run is_underscore (drop (at + 2) t)) (at + 2 + run goes (drop (at + 2) t)))
+      (refused_at refusal at (at + 2 + run goes (drop (at + 2) t)))
+      (lexeme_to kind (at + 2 + run goes (drop (at + 2) t)))
+  unfolding prefixed_by
+  prefixed_at kind refusal goes = rw (outcome-cond, drop-drop 2 at t) (simp (add-zero, ← add_assoc, eqb-plus))
 
   pub number_at : number (drop at t) ≡
-      cond (is "0" (get_or t at 0) && is "b" (get_or t (at + 1) 0)) (prefixed NumBinary NoBinaryDigit is_binary_digit (drop at t)) (
-      cond (is "0" (get_or t at 0) && is "x" (get_or t (at + 1) 0)) (prefixed NumHexadecimal NoHexDigit is_hex_digit (drop at t))
+      cond (is "0" (get_or t at 0) && is "b" (get_or t (at + 1) 0)) (prefixed_by NumBinary NoBinaryDigit (λ b. is_binary_digit b || is_underscore b) (drop at t)) (
+      cond (is "0" (get_or t at 0) && is "x" (get_or t (at + 1) 0)) (prefixed_by NumHexadecimal NoHexDigit (λ b. is_hex_digit b || is_underscore b) (drop at t))
       (decimal (drop at t)))
-  unfolding number
+  unfolding number prefixed prefixed_by
   number_at = rw (begins-more "0" "b" t at refl, begins-at "b" t (at + 1) refl, begins-more "0" "x" t at refl, begins-at "x" t (at + 1) refl)
 
 -- an exponent from where a fraction ends; a fraction's refusal stays
@@ -160,11 +161,16 @@ then_at : (t : List ℕ) (m : ℕ) (r : Step) → outcome m (then_exponent (drop
 then_at t m (found k n) = rw (drop-drop n m t) (outcome-moved m n (exponent 0 (drop (m + n) t)))
 then_at t m (stop refusal from n) = refl
 
-pub decimal-at : (t : List ℕ) (at : ℕ) → outcome at (decimal (drop at t)) ≡ and_exponent t (outcome (at + int_length (drop at t)) (fraction_alone (drop (at + int_length (drop at t)) t)))
-decimal-at t at =
+pub decimal_at : (t : List ℕ) (at : ℕ) → outcome at (decimal (drop at t)) ≡ and_exponent t (outcome (at + int_length (drop at t)) (fraction_alone (drop (at + int_length (drop at t)) t)))
+decimal_at t at =
     rw (decimal-parts (drop at t), outcome-moved, drop-drop (int_length (drop at t)) at t)
     (then_at t (at + int_length (drop at t)) (fraction_alone (drop (at + int_length (drop at t)) t)))
 
--- Whitespace
-pub whitespace-at : (t : List ℕ) (at : ℕ) (m : Measured) → measured_meant m ≡ measured (drop at t) → outcome at (whitespace (drop at t)) ≡ lexeme_to (cond (leb 2 m.lines) Blank Space) (at + m.length)
-whitespace-at t at m e = rw (measured-run t at m e, measured-lines t at m e) (ap (outcome at) (whitespace-measured (drop at t)))
+-- the parts of a number, by position
+pub ruleset number_steps = (common_steps, sign_at, exponent_at, fraction_at, int_at, prefixed_at, some_inside, passes-inside, add-zero)
+
+-- a number, by its prefix
+pub ruleset whole_number = (common_steps, number_at, decimal_at, some_inside)
+
+-- whitespace, by its measure
+pub ruleset whitespace_steps = (common_steps, whitespace-measured, measured-run, measured-lines, measured-within)

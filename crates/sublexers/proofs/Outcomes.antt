@@ -4,16 +4,16 @@ use mathlib.Core.Path.{◌≡◌}
 use native.Mathlib.Omega.{arith}
 use borrow.Author.Tests.{eqb-true, lt-leb}
 use lib.Dec.{eqb}
+use Rattle.std.specs.Prelude.{Result, Ok}
 use Rattle.rules.specs.Step.{Step as StepRule, found, stop}
 use Rattle.rules.proofs.Text.{decide}
 use Rattle.token.specs.Codes.{code_of}
 use Rattle.sublexers.specs.declared.Match.{Match}
-use Rattle.sublexers.specs.declared.Step.{Step}
-use Rattle.sublexers.specs.declared.Step.TheVariants.{Found}
+use Rattle.sublexers.specs.declared.Fault.{Fault}
 use Rattle.sublexers.specs.Outcome.{lexeme_to, miscoded, outcome, step_meant, last_position, anywhere}
 
 -- its code is its token's, and it is the rules' lexeme
-pub found-means : (at : ℕ) (r : StepRule) (answer : Step) (m : Match) → answer ≡ Found m → step_meant answer ≡ outcome at r → (m.kind ≡ code_of m.token) × (lexeme_to m.kind m.end ≡ outcome at r)
+pub found-means : (at : ℕ) (r : StepRule) (answer : Result Match Fault) (m : Match) → answer ≡ Ok m → step_meant answer ≡ outcome at r → (m.kind ≡ code_of m.token) × (lexeme_to m.kind m.end ≡ outcome at r)
 found-means at r answer m a o = decide (eqb m.kind (code_of m.token))
     (λ e. (eqb-true m.kind (code_of m.token) e, rw (a, e) at o))
     (λ e. absurd (not-miscoded r (rw (a, e) at o)))

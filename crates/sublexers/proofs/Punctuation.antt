@@ -7,6 +7,8 @@ use mathlib.Core.Path.{◌≡◌, refl}
 use mathlib.Core.List.{List, ◌∷◌}
 use mathlib.Core.Bool.{Bool, true, false, cond, ◌||◌, false≢true}
 use native.Mathlib.Omega.{arith}
+use native.Mathlib.Nat.{add-zero}
+use Rattle.std.proofs.lemmas.Grind.{common_steps}
 use borrow.Author.Tests.{ne_eqb}
 use lib.Dec.{eqb}
 use Rattle.rules.specs.Text.{is, begins, run}
@@ -15,6 +17,7 @@ use Rattle.rules.specs.Refusals.{UnknownPunctuation, LoneHash}
 use Rattle.rules.specs.Kinds.{Shebang, LineComment, PlainDouble, PlainTriple, HoleOpen, HoleClose, LParen, RParen, LBracket, RBracket, LBrace, RBrace, Lt, Gt, LtEq, GtEq, Eq2, Neq, ThinArrow, FatArrow, Eq1, Bang, Star, Plus, Comma, Minus, Dot, DotDot, DotDotDot, Slash, Colon, Semicolon, Pipe}
 use Rattle.rules.specs.Step.{Step, found, stop, closer, monograph, punctuation}
 use Rattle.rules.proofs.Text.{decide, is_code}
+use Rattle.rules.proofs.Runs.{begins-at, begins-more}
 use Rattle.sublexers.specs.ByClass.{punctuated}
 
 -- the end of a line from one byte further
@@ -28,91 +31,91 @@ whole = punctuated
 
 module _ (i : ℕ) (s : List ℕ) where
   -- one byte, whatever follows
-  pub at-lparen : punctuated i (code "(" ∷ s) ≡ found LParen 1
+  pub at_lparen : punctuated i (code "(" ∷ s) ≡ found LParen 1
   unfolding whole
-  at-lparen = refl
+  at_lparen = refl
 
-  pub at-lbracket : punctuated i (code "[" ∷ s) ≡ found LBracket 1
+  pub at_lbracket : punctuated i (code "[" ∷ s) ≡ found LBracket 1
   unfolding whole
-  at-lbracket = refl
+  at_lbracket = refl
 
-  pub at-lbrace : punctuated i (code "{" ∷ s) ≡ found LBrace 1
+  pub at_lbrace : punctuated i (code "{" ∷ s) ≡ found LBrace 1
   unfolding whole
-  at-lbrace = refl
+  at_lbrace = refl
 
-  pub at-star : punctuated i (code "*" ∷ s) ≡ found Star 1
+  pub at_star : punctuated i (code "*" ∷ s) ≡ found Star 1
   unfolding whole
-  at-star = refl
+  at_star = refl
 
-  pub at-plus : punctuated i (code "+" ∷ s) ≡ found Plus 1
+  pub at_plus : punctuated i (code "+" ∷ s) ≡ found Plus 1
   unfolding whole
-  at-plus = refl
+  at_plus = refl
 
-  pub at-comma : punctuated i (code "," ∷ s) ≡ found Comma 1
+  pub at_comma : punctuated i (code "," ∷ s) ≡ found Comma 1
   unfolding whole
-  at-comma = refl
+  at_comma = refl
 
-  pub at-colon : punctuated i (code ":" ∷ s) ≡ found Colon 1
+  pub at_colon : punctuated i (code ":" ∷ s) ≡ found Colon 1
   unfolding whole
-  at-colon = refl
+  at_colon = refl
 
-  pub at-semicolon : punctuated i (code ";" ∷ s) ≡ found Semicolon 1
+  pub at_semicolon : punctuated i (code ";" ∷ s) ≡ found Semicolon 1
   unfolding whole
-  at-semicolon = refl
+  at_semicolon = refl
 
-  pub at-pipe : punctuated i (code "|" ∷ s) ≡ found Pipe 1
+  pub at_pipe : punctuated i (code "|" ∷ s) ≡ found Pipe 1
   unfolding whole
-  at-pipe = refl
+  at_pipe = refl
 
   -- a closer, by the innermost opener
-  pub at-rparen : punctuated i (code ")" ∷ s) ≡ closer i LParen RParen
+  pub at_rparen : punctuated i (code ")" ∷ s) ≡ closer i LParen RParen
   unfolding whole
-  at-rparen = refl
+  at_rparen = refl
 
-  pub at-rbracket : punctuated i (code "]" ∷ s) ≡ closer i LBracket RBracket
+  pub at_rbracket : punctuated i (code "]" ∷ s) ≡ closer i LBracket RBracket
   unfolding whole
-  at-rbracket = refl
+  at_rbracket = refl
 
-  pub at-rbrace : punctuated i (code "}" ∷ s) ≡ cond (eqb i HoleOpen) (found HoleClose 1) (closer i LBrace RBrace)
+  pub at_rbrace : punctuated i (code "}" ∷ s) ≡ cond (eqb i HoleOpen) (found HoleClose 1) (closer i LBrace RBrace)
   unfolding whole
-  at-rbrace = refl
+  at_rbrace = refl
 
   -- one byte or more, by the bytes that follow
-  pub at-quote : punctuated i (code "\"" ∷ s) ≡ cond (begins "\"\"" s) (found PlainTriple 3) (found PlainDouble 1)
+  pub at_quote : punctuated i (code "\"" ∷ s) ≡ cond (begins "\"\"" s) (found PlainTriple 3) (found PlainDouble 1)
   unfolding whole
-  at-quote = refl
+  at_quote = refl
 
   pub at_lt : punctuated i (code "<" ∷ s) ≡ cond (begins "=" s) (found LtEq 2) (found Lt 1)
   unfolding whole
   at_lt = refl
 
-  pub at-gt : punctuated i (code ">" ∷ s) ≡ cond (begins "=" s) (found GtEq 2) (found Gt 1)
+  pub at_gt : punctuated i (code ">" ∷ s) ≡ cond (begins "=" s) (found GtEq 2) (found Gt 1)
   unfolding whole
-  at-gt = refl
+  at_gt = refl
 
-  pub at-eq : punctuated i (code "=" ∷ s) ≡ cond (begins "=" s) (found Eq2 2) (cond (begins ">" s) (found FatArrow 2) (found Eq1 1))
+  pub at_eq : punctuated i (code "=" ∷ s) ≡ cond (begins "=" s) (found Eq2 2) (cond (begins ">" s) (found FatArrow 2) (found Eq1 1))
   unfolding whole
-  at-eq = refl
+  at_eq = refl
 
-  pub at-bang : punctuated i (code "!" ∷ s) ≡ cond (begins "=" s) (found Neq 2) (found Bang 1)
+  pub at_bang : punctuated i (code "!" ∷ s) ≡ cond (begins "=" s) (found Neq 2) (found Bang 1)
   unfolding whole
-  at-bang = refl
+  at_bang = refl
 
-  pub at-minus : punctuated i (code "-" ∷ s) ≡ cond (begins ">" s) (found ThinArrow 2) (found Minus 1)
+  pub at_minus : punctuated i (code "-" ∷ s) ≡ cond (begins ">" s) (found ThinArrow 2) (found Minus 1)
   unfolding whole
-  at-minus = refl
+  at_minus = refl
 
-  pub at-dot : punctuated i (code "." ∷ s) ≡ cond (begins ".." s) (found DotDotDot 3) (cond (begins "." s) (found DotDot 2) (found Dot 1))
+  pub at_dot : punctuated i (code "." ∷ s) ≡ cond (begins ".." s) (found DotDotDot 3) (cond (begins "." s) (found DotDot 2) (found Dot 1))
   unfolding whole
-  at-dot = refl
+  at_dot = refl
 
-  pub at-slash : punctuated i (code "/" ∷ s) ≡ cond (begins "/" s) (found LineComment (suc (run is_not_lf s))) (found Slash 1)
+  pub at_slash : punctuated i (code "/" ∷ s) ≡ cond (begins "/" s) (found LineComment (suc (run is_not_lf s))) (found Slash 1)
   unfolding whole is_not_lf
-  at-slash = refl
+  at_slash = refl
 
-  pub at-hash : punctuated i (code "#" ∷ s) ≡ cond (begins "!" s) (found Shebang (suc (run is_not_lf s))) (stop LoneHash 0 1)
+  pub at_hash : punctuated i (code "#" ∷ s) ≡ cond (begins "!" s) (found Shebang (suc (run is_not_lf s))) (stop LoneHash 0 1)
   unfolding whole is_not_lf
-  at-hash = refl
+  at_hash = refl
 
 -- beside another fact, the byte is none of these characters: as the last arm of a match knows it
 abbrev pub BesideNoneOf : Type 0 → String → ℕ → Type 0
@@ -170,3 +173,9 @@ at_other i b s h =
       no "/" refl,
       no "#" refl,
     )
+
+-- a step at punctuation, by the bytes behind its first
+pub ruleset behind_first = (common_steps, plus_suc, begins-at, begins-more, add-zero)
+
+-- a step at punctuation, by its first byte
+pub ruleset by_first = (common_steps, begins-at, at_lparen, at_lbracket, at_lbrace, at_star, at_plus, at_comma, at_colon, at_semicolon, at_pipe, at_rparen, at_rbracket, at_rbrace, at_quote, at_lt, at_gt, at_eq, at_bang, at_minus, at_dot, at_slash, at_hash, at_other)

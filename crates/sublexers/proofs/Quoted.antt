@@ -8,6 +8,7 @@ use mathlib.Core.List.{List, [], ◌∷◌}
 use mathlib.Core.Bool.{Bool, true, false, cond, not, ◌&&◌, ◌||◌, and-true, and-false, false≢true}
 use native.Mathlib.Omega.{arith}
 use native.Mathlib.Nat.{add-zero, add_assoc}
+use Rattle.std.proofs.lemmas.Grind.{common_steps}
 use lib.Dec.{eqb}
 use lib.ListN.{length, drop, get_or, drop_of_length-le}
 use lib.Seq.{drop-drop}
@@ -24,28 +25,29 @@ use Rattle.scan.specs.Classes.{is_inner_for}
 use Rattle.sublexers.specs.Outcome.{lexeme_to, refused_at, outcome}
 use Rattle.sublexers.specs.ByClass.{backslash, escaped}
 use Rattle.sublexers.specs.Quotes.{stop_of, inner_by, inside_by}
+use Rattle.sublexers.proofs.Numbers.{some_inside}
 
-module _ (t : List ℕ) (at b : ℕ) (s : List ℕ) (e : s ≡ b ∷ drop (at + 1) t) where
-  -- what follows the first byte is the text's
-  behind : (n : ℕ) → 0 < n → drop n s ≡ drop (at + n) t
+module _ (t : List ℕ) (at b : ℕ) where
+  -- what follows the first byte is the text'(b ∷ drop (at + 1) t)
+  behind : (n : ℕ) → 0 < n → drop n (b ∷ drop (at + 1) t) ≡ drop (at + n) t
   behind zero h = absurd (omega arith)
   behind (suc m) h =
       let there : at + 1 + m ≡ at + suc m = omega arith in
-      rw (e, drop-drop m (at + 1) t, there) refl
+      rw (drop-drop m (at + 1) t, there) refl
 
-  first_more : (c : Char) (w : String) → begins (S.◌∷◌ c w) s ≡ (is c b && begins w (drop (at + 1) t))
-  first_more c w = rw e refl
+  first_more : (c : Char) (w : String) → begins (S.◌∷◌ c w) (b ∷ drop (at + 1) t) ≡ (is c b && begins w (drop (at + 1) t))
+  first_more c w = refl
 
-  first-is : (c : Char) → begins (S.◌∷◌ c S.[]) s ≡ is c b
+  first-is : (c : Char) → begins (S.◌∷◌ c S.[]) (b ∷ drop (at + 1) t) ≡ is c b
   first-is c = first_more c S.[] ∙ and-true _
 
-  starts_first : (p : ℕ → Bool) → starts p s ≡ p b
-  starts_first p = rw e refl
+  starts_first : (p : ℕ → Bool) → starts p (b ∷ drop (at + 1) t) ≡ p b
+  starts_first p = refl
 
   -- `\u{` and hex digits up to `end`, by the byte there
-  pub delim-at : (end : ℕ) → end ≡ at + 3 + run is_hex_digit (drop (at + 3) t) → outcome at (unicode_delim s) ≡ cond (is "}" (get_or t end 0)) (lexeme_to UnicodeDelim (end + 1)) (refused_at NoClosingBrace end end)
+  pub delim_at : (end : ℕ) → end ≡ at + 3 + run is_hex_digit (drop (at + 3) t) → outcome at (unicode_delim (b ∷ drop (at + 1) t)) ≡ cond (is "}" (get_or t end 0)) (lexeme_to UnicodeDelim (end + 1)) (refused_at NoClosingBrace end end)
   unfolding unicode_delim
-  delim-at end q =
+  delim_at end q =
       let n : ℕ = 3 + run is_hex_digit (drop (at + 3) t) in
       let there : at + n ≡ end = omega arith in
       let next : at + suc n ≡ end + 1 = omega arith in
@@ -53,55 +55,55 @@ module _ (t : List ℕ) (at b : ℕ) (s : List ℕ) (e : s ≡ b ∷ drop (at + 
       (decide (is "}" (get_or t end 0)) (λ f. rw (f, next)) (λ f. rw (f, there, add-zero)))
 
   -- `\u` and hex digits up to `end`: four and more
-  pub four-digits : (end : ℕ) → end ≡ at + 2 + run is_hex_digit (drop (at + 2) t) → at + 6 ≤ end → lexeme_to Unicode4 (at + 6) ≡ outcome at (unicode4 s)
+  pub four_digits : (end : ℕ) → end ≡ at + 2 + run is_hex_digit (drop (at + 2) t) → at + 6 ≤ end → lexeme_to Unicode4 (at + 6) ≡ outcome at (unicode4 (b ∷ drop (at + 1) t))
   unfolding unicode4
-  four-digits end q h = rw (behind 2 (omega arith), le-leb 4 (run is_hex_digit (drop (at + 2) t)) (omega arith))
+  four_digits end q h = rw (behind 2 (omega arith), le-leb 4 (run is_hex_digit (drop (at + 2) t)) (omega arith))
 
   -- or fewer
-  pub four-few : (end : ℕ) → end ≡ at + 2 + run is_hex_digit (drop (at + 2) t) → end < at + 6 → refused_at FewHexDigits at end ≡ outcome at (unicode4 s)
+  pub four_few : (end : ℕ) → end ≡ at + 2 + run is_hex_digit (drop (at + 2) t) → end < at + 6 → refused_at FewHexDigits at end ≡ outcome at (unicode4 (b ∷ drop (at + 1) t))
   unfolding unicode4
-  four-few end q h =
+  four_few end q h =
       let there : at + (2 + run is_hex_digit (drop (at + 2) t)) ≡ end = omega arith in
       rw (behind 2 (omega arith), lt-leb 4 (run is_hex_digit (drop (at + 2) t)) (omega arith), add-zero, there)
 
-  -- `\` at the text's end
-  pub single-end : b ≡ backslash → length t ≤ at + 1 → refused_at EscapeAtEnd at (at + 1) ≡ outcome at (single_escape s)
+  -- `\` at the text'(b ∷ drop (at + 1) t) end
+  pub single_end : b ≡ backslash → length t ≤ at + 1 → refused_at EscapeAtEnd at (at + 1) ≡ outcome at (single_escape (b ∷ drop (at + 1) t))
   unfolding single_escape
-  single-end q h =
-      let last : same "\\" s ≡ true = rw (e, q, drop_of_length-le t h) refl in
+  single_end q h =
+      let last : same "\\" (b ∷ drop (at + 1) t) ≡ true = rw (q, drop_of_length-le t h) refl in
       rw (last, add-zero)
 
   -- `\` and a byte, by that byte
-  single-at : at + 1 < length t → single_escape s ≡ cond (is "\r" (get_or t (at + 1) 0) || is "\n" (get_or t (at + 1) 0)) (stopped EscapedLineEnd 0 2) (cond (is_over127 (get_or t (at + 1) 0)) (stopped EscapedNotAscii 0 (2 + run is_tail (drop (at + 2) t))) (found Single 2))
+  single-at : at + 1 < length t → single_escape (b ∷ drop (at + 1) t) ≡ cond (is "\r" (get_or t (at + 1) 0) || is "\n" (get_or t (at + 1) 0)) (stopped EscapedLineEnd 0 2) (cond (is_over127 (get_or t (at + 1) 0)) (stopped EscapedNotAscii 0 (2 + run is_tail (drop (at + 2) t))) (found Single 2))
   unfolding single_escape is_over127
   single-at h =
-      let more : same "\\" s ≡ false = rw (e, drop-byte t (at + 1) (get_or t (at + 1) 0) h refl) (and-false (is "\\" b)) in
+      let more : same "\\" (b ∷ drop (at + 1) t) ≡ false = rw (drop-byte t (at + 1) (get_or t (at + 1) 0) h refl) (and-false (is "\\" b)) in
       rw (more, behind 1 (omega arith), behind 2 (omega arith), begins-at "\r" t (at + 1) refl, begins-at "\n" t (at + 1) refl, starts-at is_over127 t (at + 1) refl)
 
   -- a line end
-  pub single-line : at + 1 < length t → (is "\r" (get_or t (at + 1) 0) || is "\n" (get_or t (at + 1) 0)) ≡ true → refused_at EscapedLineEnd at (at + 2) ≡ outcome at (single_escape s)
-  single-line h q = rw (single-at h, q, add-zero)
+  pub single_line : at + 1 < length t → (is "\r" (get_or t (at + 1) 0) || is "\n" (get_or t (at + 1) 0)) ≡ true → refused_at EscapedLineEnd at (at + 2) ≡ outcome at (single_escape (b ∷ drop (at + 1) t))
+  single_line h q = rw (single-at h, q, add-zero)
 
   -- a byte over 127
-  pub single-over : at + 1 < length t → (is "\r" (get_or t (at + 1) 0) || is "\n" (get_or t (at + 1) 0)) ≡ false → 127 < get_or t (at + 1) 0 → refused_at EscapedNotAscii at (at + 2 + run is_tail (drop (at + 2) t)) ≡ outcome at (single_escape s)
+  pub single_over : at + 1 < length t → (is "\r" (get_or t (at + 1) 0) || is "\n" (get_or t (at + 1) 0)) ≡ false → 127 < get_or t (at + 1) 0 → refused_at EscapedNotAscii at (at + 2 + run is_tail (drop (at + 2) t)) ≡ outcome at (single_escape (b ∷ drop (at + 1) t))
   unfolding is_over127
-  single-over h q o = rw (single-at h, q, lt-ltb _ _ o, add-zero, ← add_assoc)
+  single_over h q o = rw (single-at h, q, lt-ltb _ _ o, add-zero, ← add_assoc)
 
   -- any other byte
-  pub single-one : at + 1 < length t → (is "\r" (get_or t (at + 1) 0) || is "\n" (get_or t (at + 1) 0)) ≡ false → get_or t (at + 1) 0 ≤ 127 → lexeme_to Single (at + 2) ≡ outcome at (single_escape s)
+  pub single_one : at + 1 < length t → (is "\r" (get_or t (at + 1) 0) || is "\n" (get_or t (at + 1) 0)) ≡ false → get_or t (at + 1) 0 ≤ 127 → lexeme_to Single (at + 2) ≡ outcome at (single_escape (b ∷ drop (at + 1) t))
   unfolding is_over127
-  single-one h q o = rw (single-at h, q, le-ltb _ _ o)
+  single_one h q o = rw (single-at h, q, le-ltb _ _ o)
 
   -- an escape by the two bytes after its `\`
-  pub escaped-at : b ≡ backslash → escaped s ≡ cond (is "u" (get_or t (at + 1) 0)) (cond (is "{" (get_or t (at + 2) 0)) (unicode_delim s) (unicode4 s)) (single_escape s)
+  pub escaped_at : b ≡ backslash → escaped (b ∷ drop (at + 1) t) ≡ cond (is "u" (get_or t (at + 1) 0)) (cond (is "{" (get_or t (at + 2) 0)) (unicode_delim (b ∷ drop (at + 1) t)) (unicode4 (b ∷ drop (at + 1) t))) (single_escape (b ∷ drop (at + 1) t))
   unfolding escaped
-  escaped-at q =
+  escaped_at q =
       let next : at + 1 + 1 ≡ at + 2 = omega arith in
       let here : is "\\" b ≡ true = rw q refl in
       rw (first_more "\\" "u{", first_more "\\" "u", here, begins-more "u" "{" t (at + 1) refl, begins-at "u" t (at + 1) refl, next, begins-at "{" t (at + 2) refl) (decide (is "u" (get_or t (at + 1) 0)) (λ f. rw f) (λ f. rw f))
 
   -- three quotes by the two bytes after the first
-  three-quotes : b ≡ code "\"" → begins "\"\"\"" s ≡ (is "\"" (get_or t (at + 1) 0) && is "\"" (get_or t (at + 2) 0))
+  three-quotes : b ≡ code "\"" → begins "\"\"\"" (b ∷ drop (at + 1) t) ≡ (is "\"" (get_or t (at + 1) 0) && is "\"" (get_or t (at + 2) 0))
   three-quotes q =
       let next : at + 1 + 1 ≡ at + 2 = omega arith in
       let here : is "\"" b ≡ true = rw q refl in
@@ -109,32 +111,32 @@ module _ (t : List ℕ) (at b : ℕ) (s : List ℕ) (e : s ≡ b ∷ drop (at + 
 
   module _ (end : ℕ) (triple : Bool) where
     -- the step at `\`
-    pub at-escape : b ≡ backslash → inside_by end triple s ≡ escaped s
+    pub at_escape : b ≡ backslash → inside_by end triple (b ∷ drop (at + 1) t) ≡ escaped (b ∷ drop (at + 1) t)
     unfolding inside_by
-    at-escape q =
+    at_escape q =
         let here : is "\\" b ≡ true = rw q refl in
         rw (first-is "\\", here)
 
-    -- at a quote, by the code's test for one that closes
-    pub at-quote : b ≡ code "\"" → inside_by end triple s ≡ cond (not triple || is "\"" (get_or t (at + 1) 0) && is "\"" (get_or t (at + 2) 0)) (found QuoteClose (cond triple 3 1)) (inner_by end s)
+    -- at a quote, by the code'(b ∷ drop (at + 1) t) test for one that closes
+    pub at_quote : b ≡ code "\"" → inside_by end triple (b ∷ drop (at + 1) t) ≡ cond (not triple || is "\"" (get_or t (at + 1) 0) && is "\"" (get_or t (at + 2) 0)) (found QuoteClose (cond triple 3 1)) (inner_by end (b ∷ drop (at + 1) t))
     unfolding inside_by
-    at-quote q =
+    at_quote q =
         let other : is "\\" b ≡ false = rw q refl in
         let here : is "\"" b ≡ true = rw q refl in
         rw (first-is "\\", first-is "\"", three-quotes q, other, here)
 
     -- at any other byte
-    pub at_other : (b ≡ backslash → ⊥) → (b ≡ code "\"" → ⊥) → inside_by end triple s ≡ cond (eqb b end) (found HoleOpen 1) (inner_by end s)
+    pub at_other : (b ≡ backslash → ⊥) → (b ≡ code "\"" → ⊥) → inside_by end triple (b ∷ drop (at + 1) t) ≡ cond (eqb b end) (found HoleOpen 1) (inner_by end (b ∷ drop (at + 1) t))
     unfolding inside_by
     at_other q r = rw (first-is "\\", first-is "\"", ne_eqb b (code "\\") q, ne_eqb b (code "\"") r, starts_first (λ x. eqb x end))
 
     -- where an inner part ends
-    pub inner-at : outcome at (inner_by end s) ≡ lexeme_to StringInner (at + 1 + run (is_inner_for end) (drop (at + 1) t))
-    inner-at =
+    pub inner_at : outcome at (inner_by end (b ∷ drop (at + 1) t)) ≡ lexeme_to StringInner (at + 1 + run (is_inner_for end) (drop (at + 1) t))
+    inner_at =
         let there : at + suc (run (is_inner_for end) (drop (at + 1) t)) ≡ at + 1 + run (is_inner_for end) (drop (at + 1) t) = omega arith in
         rw (behind 1 (omega arith), there)
 
-  -- an inner part before a line end is one byte long, by the code's test for an empty line
+  -- an inner part before a line end is one byte long, by the code'(b ∷ drop (at + 1) t) test for an empty line
   pub line_at : (end : ℕ) → is "\n" b && is "\n" (get_or t (at + 1) 0) ≡ true → at + 1 + run (is_inner_for end) (drop (at + 1) t) ≡ at + 1
   unfolding is_inner_for
   line_at end q =
@@ -143,11 +145,11 @@ module _ (t : List ℕ) (at b : ℕ) (s : List ℕ) (e : s ≡ b ∷ drop (at + 
       rw (run-stop (is_inner_for end) t (at + 1) ends, add-zero)
 
 -- a closing quote of three bytes ends within the text
-pub close-end : (t : List ℕ) (at : ℕ) (triple : Bool) → not triple || is "\"" (get_or t (at + 1) 0) && is "\"" (get_or t (at + 2) 0) ≡ true → at + cond triple 3 1 ≤ max (at + 1) (length t)
-close-end t at true q =
+pub close_end : (t : List ℕ) (at : ℕ) (triple : Bool) → not triple || is "\"" (get_or t (at + 1) 0) && is "\"" (get_or t (at + 2) 0) ≡ true → at + cond triple 3 1 ≤ max (at + 1) (length t)
+close_end t at true q =
     let last : is "\"" (get_or t (at + 2) 0) ≡ true = decide (is "\"" (get_or t (at + 1) 0)) (λ f. rw f at q) (λ f. absurd (false≢true (rw f at q))) in
     omega (arith, passes-inside (is "\"") t (at + 2) refl last)
-close-end t at false q = omega arith
+close_end t at false q = omega arith
 
 -- The rules' step in a string. A byte goes on an inner part where it does by the string's stop: in a plain one the stop is the quote once more
 inner-same : (quote b : ℕ) → is_inner_for (stop_of quote) b ≡ is_inner quote b
@@ -200,3 +202,9 @@ inside-by quote s =
     (λ f. rw (e, f, in-quote quote s f, run-same (drop 1 s) (inner-same quote))
     (decide (is_triple quote) (λ t. rw t (decide (begins "\"\"\"" s) (λ q. rw q) (λ q. rw q))) (λ t. rw t)))
     (λ f. rw (e, f, in-other quote s e f, hole-same quote s f, run-same (drop 1 s) (inner-same quote)) refl))
+
+-- a step in a string, by the bytes behind its first
+pub ruleset quoted_steps = (common_steps, delim_at, four_digits, four_few, single_end, single_line, single_over, single_one, escaped_at, begins-at, some_inside, add-zero)
+
+-- a step in a string, by its first byte
+pub ruleset by_first = (common_steps, at_escape, at_quote, at_other, inner_at, line_at, close_end, passes-inside)

@@ -5,7 +5,7 @@ use Rattle.rules.specs.Text.{is, begins, starts, run}
 use Rattle.rules.specs.Bytes.{is_digit, is_not_lf}
 use Rattle.rules.specs.Refusals.{NoFractionDigit}
 use Rattle.rules.specs.Kinds.{Shebang, LineComment, PlainDouble, PlainTriple, FormatDouble, FormatTriple, HoleOpen, HoleClose, NumDecimal}
-use Rattle.rules.specs.Step.{Step, found, stop, is_digit_or_underscore, punctuation, unicode_delim, unicode4, single_escape}
+use Rattle.rules.specs.Step.{Step, found, stop, is_underscore, is_digit_or_underscore, punctuation, unicode_delim, unicode4, single_escape}
 use Rattle.sublexers.specs.Words.{identifier_by}
 
 -- a text that begins with a letter or `_`: its first byte and the rest for the quotes, the whole of it for the identifier, by any test of a byte
@@ -32,6 +32,12 @@ backslash = code "\\"
 -- in a string, a text that begins with it
 unfoldable pub escaped : List ℕ → Step
 escaped s = cond (begins "\\u{" s) (unicode_delim s) (cond (begins "\\u" s) (unicode4 s) (single_escape s))
+
+-- the rules' `prefixed`, by any test of a byte that goes on the number, digit or underscore
+unfoldable pub prefixed_by : (kind number : ℕ) → (ℕ → Bool) → List ℕ → Step
+prefixed_by kind number goes s =
+    let n = run goes (drop 2 s) in
+    cond (eqb (run is_underscore (drop 2 s)) n) (stop number 0 (2 + n)) (found kind (2 + n))
 
 -- perhaps a fraction, without the exponent that may follow it
 unfoldable pub fraction_alone : List ℕ → Step

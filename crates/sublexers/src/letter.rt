@@ -3,6 +3,8 @@
 // Licensed under the Apache License, Version 2.0 (the "License"): see NOTICE.
 // From src/lexer.rs of RCL, changed: what an `f` before a quote opens is told here.
 
+#![tactic(auto, using(crate::proofs::Letters::letter_steps), unfolding(token::specs::Codes::code_of))]
+
 // A letter: a format string opens, or an identifier begins.
 ghost use Rattle.std.specs.Prelude.{◌≡◌, cond, ◌+◌, ◌<◌, length, drop};
 ghost use Rattle.rules.specs.Text.{begins};
@@ -13,7 +15,6 @@ ghost use Rattle.sublexers.specs.Words.{is_identifier_byte_in};
 ghost use Rattle.sublexers.specs.ByClass.{lettered_by};
 
 use crate::{Step, ident, lexeme_to};
-use rules::kind;
 use token::{QuoteStyle, StringPrefix, Token};
 
 // `f"""` or `f"`, where an `f` and a quote stand.
@@ -21,29 +22,24 @@ fn open_format(text: &[u8], at: usize) -> Step
     requires { at + 1 < length text.now }
     ensures { step_meant result ≡ outcome at (cond (begins "\"\"" (drop (at + 2) text.now)) (found_rule FormatTriple 4) (found_rule FormatDouble 2)) }
 {
-    if (basics::byte_at(text, at + 2) == b'"') & (basics::byte_at(text, at + 3) == b'"') {
+    if basics::byte_at(text, at + 2) == b'"' && basics::byte_at(text, at + 3) == b'"' {
         return lexeme_to(
             at + 4,
             Token::QuoteOpen(StringPrefix::Format, QuoteStyle::Triple),
-            kind::FORMAT_TRIPLE,
         );
     }
     lexeme_to(
         at + 2,
         Token::QuoteOpen(StringPrefix::Format, QuoteStyle::Double),
-        kind::FORMAT_DOUBLE,
     )
 }
 
 // A format string opens, or an identifier begins; `first` is the byte there, which the caller has read.
-#[tactic(auto, using(crate::proofs::Letters::letter_at, crate::proofs::Letters::is_f, crate::proofs::Letters::has_next, crate::proofs::Letters::no_next, crate::proofs::Numbers::some_inside))]
 pub fn lex_in_letter(table: &[u8; 256], first: u8, text: &[u8], at: usize) -> Step
     ensures { step_meant result ≡ outcome at (lettered_by (is_identifier_byte_in table.now) first (drop (at + 1) text.now) (drop at text.now)) }
 {
-    if (first == b'f') & (at < text.len()) {
-        if basics::byte_at(text, at + 1) == b'"' {
-            return open_format(text, at);
-        }
+    if first == b'f' && at < text.len() && basics::byte_at(text, at + 1) == b'"' {
+        return open_format(text, at);
     }
     ident::lex_in_ident(table, text, at)
 }

@@ -14,6 +14,7 @@ mod punct;
 mod space;
 
 ghost use Rattle.std.specs.Prelude.{◌≡◌};
+ghost use Rattle.rules.specs.Reasons.{number_of};
 ghost use Rattle.token.specs.Codes.{code_of};
 ghost use Rattle.sublexers.specs.Outcome.{lexeme_to, refused_at, step_meant};
 
@@ -22,11 +23,13 @@ pub use in_string::lex_in_string;
 pub use letter::lex_in_letter;
 pub use number::lex_in_number;
 pub use punct::lex_in_punct;
+use rules::Reason;
 pub use space::{is_blank, lex_in_space};
 use token::Token;
 
 // What a step found: where it ends, its token, and the token's kind code. `end` comes first here and in a fault, so that both cases of a step share its place in memory.
-#[derive(Clone, Copy)]
+// Kept: the code beside the token. Looked up at each lexeme it costs 23 to 29 % more instructions.
+#[derive(Clone, Copy, Debug, PartialEq, Eq)]
 pub struct Match {
     pub end: usize,
     pub token: Token,
@@ -34,41 +37,34 @@ pub struct Match {
 }
 
 // Why a step was refused, and its span.
-#[derive(Clone, Copy)]
+#[derive(Clone, Copy, Debug, PartialEq, Eq)]
 pub struct Fault {
     pub end: usize,
-    pub number: u8,
+    pub reason: Reason,
     pub start: usize,
 }
 
-#[derive(Clone, Copy)]
-pub enum Step {
-    Found(Match),
-    Refused(Fault),
-}
+pub type Step = Result<Match, Fault>;
 
 // The last position that there is: no text reaches it, and no position comes after it.
+// Kept: `at + 1 < 2 ^ 64` in eleven private contracts. A struct of the text and the place that holds it was tried and proved: 2 % more instructions on the move table, 4 % on varied triple-quoted strings, which would be under twice the Rust.
 pub(crate) const LAST: usize = 0xffff_ffff_ffff_ffff;
 
-// A lexeme that ends there. The kind code is given beside the token, so that no step has to look it up.
-pub(crate) fn lexeme_to(end: usize, token: Token, kind: u8) -> Step
-    requires { kind ≡ code_of token }
+// A lexeme that ends there. Always inlined, like the two that hand a token on to it: the token is a constant there, so its kind code is one too, and no step looks it up.
+#[inline(always)]
+pub(crate) fn lexeme_to(end: usize, token: Token) -> Step
     ensures { step_meant result ≡ lexeme_to (code_of token) end }
 {
-    Step::Found(Match {
-        end: end,
-        token: token,
-        kind: kind,
+    Ok(Match {
+        end,
+        token,
+        kind: token::code(token),
     })
 }
 
 // A refusal and its span.
-pub fn refused_at(number: u8, start: usize, end: usize) -> Step
-    ensures { step_meant result ≡ refused_at number start end }
+pub fn refused_at(reason: Reason, start: usize, end: usize) -> Step
+    ensures { step_meant result ≡ refused_at (number_of reason) start end }
 {
-    Step::Refused(Fault {
-        end: end,
-        number: number,
-        start: start,
-    })
+    Err(Fault { end, reason, start })
 }

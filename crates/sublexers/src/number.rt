@@ -3,49 +3,46 @@
 // Licensed under the Apache License, Version 2.0 (the "License"): see NOTICE.
 // From src/lexer.rs of RCL, changed: a function for each part of a number, and an error is a numbered refusal.
 
+#![tactic(auto, using(crate::proofs::Numbers::number_steps), unfolding(token::specs::Codes::code_of))]
+
 // Numbers: binary, hexadecimal, and decimals as in JSON, without the sign.
 ghost use Rattle.std.specs.Prelude.{◌≡◌, cond, ◌||◌, ◌+◌, ◌<◌, length, drop};
 ghost use Rattle.rules.specs.Text.{begins};
-ghost use Rattle.rules.specs.Bytes.{is_binary_digit, is_hex_digit};
-ghost use Rattle.rules.specs.Refusals.{NoBinaryDigit, NoHexDigit};
-ghost use Rattle.rules.specs.Kinds.{NumBinary, NumHexadecimal};
-ghost use Rattle.rules.specs.Step.{int_length, exponent, prefixed, number};
+ghost use Rattle.rules.specs.Reasons.{number_of};
+ghost use Rattle.rules.specs.Step.{int_length, exponent, number};
+ghost use Rattle.token.specs.Codes.{code_of};
 ghost use Rattle.sublexers.specs.Outcome.{outcome, step_meant};
-ghost use Rattle.sublexers.specs.ByClass.{fraction_alone};
+ghost use Rattle.sublexers.specs.ByClass.{fraction_alone, prefixed_by};
 
 use crate::{Step, lexeme_to, refused_at};
-use rules::{kind, refusal};
-use scan::Class;
+use rules::Reason;
+use scan::{BinaryOrUnderscore, ByteClass, DigitOrUnderscore, HexOrUnderscore, Underscore};
 use token::Token;
 
 // Behind a sign, where there is one.
 fn sign_end(text: &[u8], at: usize) -> usize
     ensures { result ≡ at + cond (begins "+" (drop at text.now) || begins "-" (drop at text.now)) 1 0 }
 {
-    let b = basics::byte_at(text, at);
-    if (b == b'+') | (b == b'-') {
-        return at + 1;
+    match basics::byte_at(text, at) {
+        b'+' | b'-' => at + 1,
+        _ => at,
     }
-    at
 }
 
 // Optionally, an exponent.
 fn exponent_at(text: &[u8], at: usize) -> Step
     ensures { step_meant result ≡ outcome at (exponent 0 (drop at text.now)) }
 {
-    let e = basics::byte_at(text, at);
-    if !((e == b'e') | (e == b'E')) {
-        return lexeme_to(at, Token::NumDecimal, kind::NUM_DECIMAL);
+    if !matches!(basics::byte_at(text, at), b'e' | b'E') {
+        return lexeme_to(at, Token::NumDecimal);
     }
-    let m = sign_end(text, at + 1);
-    let d = basics::byte_at(text, m);
-    if !scan::is_digit(d) {
-        return refused_at(refusal::NO_EXPONENT_DIGIT, m, m);
+    let digits = sign_end(text, at + 1);
+    if !scan::is_digit(basics::byte_at(text, digits)) {
+        return refused_at(Reason::NoExponentDigit, digits, digits);
     }
     lexeme_to(
-        scan::digits_end(text, m),
+        scan::run_end(text, digits, DigitOrUnderscore),
         Token::NumDecimal,
-        kind::NUM_DECIMAL,
     )
 }
 
@@ -53,18 +50,15 @@ fn exponent_at(text: &[u8], at: usize) -> Step
 fn fraction_at(text: &[u8], at: usize) -> Step
     ensures { step_meant result ≡ outcome at (fraction_alone (drop at text.now)) }
 {
-    let p = basics::byte_at(text, at);
-    if p != b'.' {
-        return lexeme_to(at, Token::NumDecimal, kind::NUM_DECIMAL);
+    if basics::byte_at(text, at) != b'.' {
+        return lexeme_to(at, Token::NumDecimal);
     }
-    let d = basics::byte_at(text, at + 1);
-    if !scan::is_digit(d) {
-        return refused_at(refusal::NO_FRACTION_DIGIT, at, at + 1);
+    if !scan::is_digit(basics::byte_at(text, at + 1)) {
+        return refused_at(Reason::NoFractionDigit, at, at + 1);
     }
     lexeme_to(
-        scan::digits_end(text, at + 1),
+        scan::run_end(text, at + 1, DigitOrUnderscore),
         Token::NumDecimal,
-        kind::NUM_DECIMAL,
     )
 }
 
@@ -75,51 +69,49 @@ fn int_end(text: &[u8], at: usize) -> usize
     if basics::byte_at(text, at) == b'0' {
         return at + 1;
     }
-    scan::digits_end(text, at)
+    scan::run_end(text, at, DigitOrUnderscore)
 }
 
-// After `0b`: we need at least one digit after the prefix.
-fn binary_at(text: &[u8], at: usize) -> Step
+// After `0b` or `0x`: we need at least one digit after the prefix; `none` is the reason where there is none.
+fn prefixed_at<D: ByteClass>(text: &[u8], at: usize, digits: D, token: Token, none: Reason) -> Step
     requires { at < length text.now }
-    ensures { step_meant result ≡ outcome at (prefixed NumBinary NoBinaryDigit is_binary_digit (drop at text.now)) }
+    ensures { step_meant result ≡ outcome at (prefixed_by (code_of token) (number_of none) (D.passes digits) (drop at text.now)) }
 {
-    let end = scan::run_end(text, at + 2, Class::BinaryOrUnderscore);
-    if scan::run_end(text, at + 2, Class::Underscore) == end {
-        return refused_at(refusal::NO_BINARY_DIGIT, at, end);
+    let end = scan::run_end(text, at + 2, digits);
+    if scan::run_end(text, at + 2, Underscore) == end {
+        return refused_at(none, at, end);
     }
-    lexeme_to(end, Token::NumBinary, kind::NUM_BINARY)
-}
-
-// After `0x`, the same.
-fn hexadecimal_at(text: &[u8], at: usize) -> Step
-    requires { at < length text.now }
-    ensures { step_meant result ≡ outcome at (prefixed NumHexadecimal NoHexDigit is_hex_digit (drop at text.now)) }
-{
-    let end = scan::run_end(text, at + 2, Class::HexOrUnderscore);
-    if scan::run_end(text, at + 2, Class::Underscore) == end {
-        return refused_at(refusal::NO_HEX_DIGIT, at, end);
-    }
-    lexeme_to(end, Token::NumHexadecimal, kind::NUM_HEXADECIMAL)
+    lexeme_to(end, token)
 }
 
 // A number, where a digit stands.
+#[tactic(auto, using(crate::proofs::Numbers::whole_number), unfolding(token::specs::Codes::code_of))]
 pub fn lex_in_number(text: &[u8], at: usize) -> Step
     ensures { step_meant result ≡ outcome at (number (drop at text.now)) }
 {
     if basics::byte_at(text, at) == b'0' {
-        let p = basics::byte_at(text, at + 1);
-        if p == b'b' {
-            return binary_at(text, at);
-        }
-        if p == b'x' {
-            return hexadecimal_at(text, at);
+        match basics::byte_at(text, at + 1) {
+            b'b' => {
+                return prefixed_at(
+                    text,
+                    at,
+                    BinaryOrUnderscore,
+                    Token::NumBinary,
+                    Reason::NoBinaryDigit,
+                );
+            }
+            b'x' => {
+                return prefixed_at(
+                    text,
+                    at,
+                    HexOrUnderscore,
+                    Token::NumHexadecimal,
+                    Reason::NoHexDigit,
+                );
+            }
+            _ => {}
         }
     }
-    let m = int_end(text, at);
-    let f = fraction_at(text, m);
-    let Step::Found(l) = f else {
-        return f;
-    };
-    let e = l.end;
-    exponent_at(text, e)
+    let fraction = fraction_at(text, int_end(text, at))?;
+    exponent_at(text, fraction.end)
 }

@@ -3,13 +3,14 @@
 // Licensed under the Apache License, Version 2.0 (the "License"): see NOTICE.
 // From src/lexer.rs of RCL, changed: line ends are counted while the run is measured.
 
+#![tactic(auto, using(crate::proofs::Numbers::whitespace_steps), unfolding(token::specs::Codes::code_of))]
+
 // Whitespace.
 ghost use Rattle.std.specs.Prelude.{◌≡◌, leb, drop};
 ghost use Rattle.rules.specs.Step.{whitespace};
 ghost use Rattle.sublexers.specs.Outcome.{outcome, step_meant};
 
 use crate::{Step, lexeme_to};
-use rules::kind;
 use token::Token;
 
 // Whether whitespace with so many line ends is a Blank.
@@ -26,7 +27,7 @@ pub fn lex_in_space(text: &[u8], at: usize) -> Step
     let run = scan::whitespace(text, at);
     let end = at + run.length;
     if is_blank(run.lines) {
-        return lexeme_to(end, Token::Blank, kind::BLANK);
+        return lexeme_to(end, Token::Blank);
     }
-    lexeme_to(end, Token::Space, kind::SPACE)
+    lexeme_to(end, Token::Space)
 }

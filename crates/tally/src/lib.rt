@@ -2,17 +2,18 @@
 #![tactic(auto)]
 
 ghost use Rattle.std.specs.Prelude.{◌≡◌};
-ghost use Rattle.rules.specs.Lent.{lent};
 ghost use Rattle.rules.specs.Lexing.{Lexes};
-ghost use Rattle.rules.specs.Tally.{fresh as fresh_rule, plus as plus_rule, tallied as tallied_rule, after_call};
+ghost use Rattle.rules.specs.Tally.{fresh as fresh_rule, tallied as tallied_rule, after_call};
 ghost use Rattle.source.specs.Meaning.{verdict_meant};
+ghost use Rattle.list.specs.Entries.{lent_in, SameArrays};
 ghost use Rattle.lexer.specs.Results.{lexed_meant};
 ghost use Rattle.tally.specs.Meaning.{tally_meant};
 
 use lexer::Lexed;
-use source::Verdict;
+use list::ListMut;
+use source::Refusal;
 
-#[derive(Clone, Copy)]
+#[derive(Clone, Copy, Debug, Default, PartialEq, Eq)]
 pub struct Tally {
     pub accepted: u64,
     pub refused: u64,
@@ -20,7 +21,7 @@ pub struct Tally {
 }
 
 // A result of lexing, and the tally after it.
-#[derive(Clone, Copy)]
+#[derive(Clone, Copy, Debug, PartialEq, Eq)]
 pub struct Counted {
     pub lexed: Lexed,
     pub tally: Tally,
@@ -29,39 +30,25 @@ pub struct Counted {
 pub fn fresh() -> Tally
     ensures { tally_meant result ≡ fresh_rule }
 {
-    Tally {
-        accepted: 0,
-        refused: 0,
-        steps: 0,
-    }
-}
-
-// A sum that stops at 2^64 − 1.
-fn plus(a: u64, b: u64) -> u64
-    ensures { result ≡ plus_rule a b }
-{
-    if b <= 0xffff_ffff_ffff_ffff - a {
-        return a + b;
-    }
-    0xffff_ffff_ffff_ffff
+    Tally::default()
 }
 
 // The tally after one more lexing call.
-pub fn tallied(t: Tally, answer: Verdict, steps: u64) -> Tally
+pub fn tallied(t: Tally, answer: Result<(), Refusal>, steps: u64) -> Tally
     ensures { tally_meant result ≡ tallied_rule (tally_meant t) (verdict_meant answer) steps }
 {
-    let all = plus(t.steps, steps);
-    if let Verdict::Refused(_) = answer {
-        return Tally {
-            accepted: t.accepted,
-            refused: plus(t.refused, 1),
-            steps: all,
-        };
-    }
-    Tally {
-        accepted: plus(t.accepted, 1),
-        refused: t.refused,
-        steps: all,
+    let steps = t.steps.saturating_add(steps);
+    match answer {
+        Ok(()) => Tally {
+            accepted: t.accepted.saturating_add(1),
+            steps,
+            ..t
+        },
+        Err(_) => Tally {
+            refused: t.refused.saturating_add(1),
+            steps,
+            ..t
+        },
     }
 }
 
@@ -70,19 +57,17 @@ pub fn lex_tallied(
     t: Tally,
     doc: u32,
     text: &[u8],
-    kinds: &mut [u8],
-    words: &mut [u64],
-    skinds: &mut [u8],
-    swords: &mut [u64],
+    list: &mut ListMut<'_>,
+    stack: &mut ListMut<'_>,
 ) -> Counted
-    ensures lexes { Lexes doc text.now (lent kinds.old words.old) (lent skinds.old swords.old) (lexed_meant result.lexed) (lent kinds.new words.new) (lent skinds.new swords.new) }
-    ensures tally_value { tally_meant result.tally ≡ after_call (tally_meant t) (lexed_meant result.lexed) }
+    ensures lexes { Lexes doc text.now (lent_in list.old) (lent_in stack.old) (lexed_meant result.lexed) (lent_in list.new) (lent_in stack.new) }
+    ensures tally { tally_meant result.tally ≡ after_call (tally_meant t) (lexed_meant result.lexed) }
+    ensures same_list { SameArrays list.old list.new }
+    ensures same_stack { SameArrays stack.old stack.new }
 {
-    let lexed = lexer::lex(doc, text, kinds, words, skinds, swords);
-    let answer = lexed.answer;
-    let after = tallied(t, answer, lexed.steps as u64);
+    let lexed = lexer::lex(doc, text, list, stack);
     Counted {
-        lexed: lexed,
-        tally: after,
+        lexed,
+        tally: tallied(t, lexed.answer, lexed.steps as u64),
     }
 }

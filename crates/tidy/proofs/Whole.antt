@@ -21,7 +21,7 @@ use Rattle.source.specs.Meaning.{part_of}
 use Rattle.rules.proofs.Listing.{Inside, ShowsAll, no_more, one_more, placed-shows, listing-room, shown-words}
 use Rattle.rules.proofs.Front.{Begins, begins-in}
 use Rattle.output.proofs.Overwritten.{overwritten-nothing, written-nothing}
-use Rattle.tidy.specs.Pieces.{pieces_after, WritesPieces, answered_with}
+use Rattle.tidy.specs.Pieces.{pieces_after, WritesPieces}
 
 -- a span inside a text names the bytes there
 inside-bytes : (text : List ℕ) (doc : ℕ) (s : Span) → Inside text doc s → part_of (resolved text s) ≡ bytes_at text s
@@ -60,6 +60,10 @@ pub listing-back : (text : List ℕ) (doc stack : ℕ) (list : Lent) → let ls 
 listing-back text doc stack list =
     let ls : List Lexeme = listing doc (places_in list) stack text in
     rw (counted text doc (places_in list) stack) (contents-holding ls list.arrays (listing-room text doc list stack) (shown-words (listing-shows-all text doc (places_in list) stack)))
+
+-- a result with another verdict
+abbrev pub answered_with : Verdict → Lexed → Lexed
+answered_with v r = record { verdict = v; lexemes = r.lexemes; steps = r.steps; kept = r.kept; dropped = r.dropped; deepest = r.deepest }
 
 -- the rule for a call whose lexing is refused
 tidying-refused : (doc places stack : ℕ) (text out : List ℕ) (f : Refusal) → (lexing doc places stack text).verdict ≡ refused f

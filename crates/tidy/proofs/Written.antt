@@ -1,13 +1,12 @@
 -- Laws of the pieces of a list as they are written one after another.
+use Rattle.std.specs.Prelude.{Ok, Err}
 use Prim.Native.Nat.{ℕ, ◌+◌, ◌≤◌, ◌<◌}
 use native.Mathlib.Nat.{zero-add}
 use native.Mathlib.Omega.{arith}
 use mathlib.Core.Path.{◌≡◌, refl, sym, ap, ◌∙◌}
-use mathlib.Core.Bool.{true, false}
 use mathlib.Core.List.{List, [], ◌∷◌, ◌++◌, append_assoc, append-nil}
 use lib.ListN.{length, drop, length-append, drop_of_length-le}
 use Rattle.rules.specs.Refusals.{OutputFull}
-use Rattle.rules.specs.Spans.{limit}
 use Rattle.rules.specs.Answers.{Verdict, accepted, refuse}
 use Rattle.rules.specs.Source.{resolved}
 use Rattle.rules.specs.Kinds.{Blank}
@@ -15,8 +14,8 @@ use Rattle.rules.specs.Lent.{Lexeme}
 use Rattle.rules.specs.Output.{end_of, Written, piece, written, overwritten}
 use Rattle.rules.specs.Tidy.{gap}
 use Rattle.source.specs.Meaning.{part_of}
-use Rattle.output.specs.Places.{Put}
-use Rattle.output.proofs.Overwritten.{end-within, end-limit, end-overwritten, overwritten-nothing, overwritten-length, overwritten-two, put-true, put-false, written-fits, written-stops, written-nothing}
+use Rattle.output.specs.Places.{full, Put}
+use Rattle.output.proofs.Overwritten.{end-within, end-overwritten, overwritten-nothing, overwritten-two, put-ok, put-err, written-fits, written-stops, written-nothing}
 use Rattle.tidy.specs.Pieces.{pieces_after, WritesPieces}
 
 -- what is to be written of all lexemes of a list
@@ -40,17 +39,9 @@ pub record Writing (text : List ℕ) (ls : List Lexeme) (out now : List ℕ) (i 
 pub writing_start : (text : List ℕ) (ls : List Lexeme) (out : List ℕ) → Writing text ls out out 0 0 Blank
 writing_start text ls out = record { before = []; size = refl; room = omega arith; output = sym (overwritten-nothing out 0); bytes = refl; verdict = refl }
 
--- what is written leaves the output's length
-pub writing-length : {text : List ℕ} {ls : List Lexeme} {out now : List ℕ} {i at first : ℕ} → Writing text ls out now i at first → length now ≡ length out
-writing-length {text} {ls} {out} w = ap length w.output ∙ overwritten-length out 0 w.before (omega (arith, w.size, w.room, end-within out))
-
--- and its end
+-- what is written leaves the output's end
 writing-end-same : {text : List ℕ} {ls : List Lexeme} {out now : List ℕ} {i at first : ℕ} → Writing text ls out now i at first → end_of now ≡ end_of out
 writing-end-same {text} {ls} {out} w = ap end_of w.output ∙ end-overwritten out 0 w.before (omega (arith, w.size, w.room, end-within out))
-
--- a piece that is written ends within the limit
-pub put-limit : {bytes : List ℕ} {at : ℕ} {out out' : List ℕ} → Put bytes at out true out' → at + length bytes ≤ limit
-put-limit {bytes} {at} {out} put = omega (arith, (put-true put).0, end-limit out)
 
 -- a piece: the gap after a lexeme of a kind, and the lexeme
 abbrev pub piece_of : (text : List ℕ) (first : ℕ) → Lexeme → List ℕ
@@ -58,22 +49,22 @@ piece_of text first l = gap first l.kind ++ part_of (resolved text l.at)
 
 -- a piece that is written
 pub writing-on : {text : List ℕ} {ls : List Lexeme} {out now now' : List ℕ} {i at first : ℕ} (l : Lexeme) (next : ℕ) → Writing text ls out now i at first → drop i ls ≡ l ∷ drop (i + 1) ls
-    → Put (piece_of text first l) at now true now' → next ≡ at + length (piece_of text first l) → Writing text ls out now' (i + 1) next l.kind
-writing-on {text} {ls} {out} {now} {now'} {i} {at} {first} l next w here put e =
+    → Put (piece_of text first l) at now (Ok next) now' → Writing text ls out now' (i + 1) next l.kind
+writing-on {text} {ls} {out} {now} {now'} {i} {at} {first} l next w here put =
     let bytes : List ℕ = piece_of text first l in
-    let p : (at + length bytes ≤ end_of now) × (now' ≡ overwritten now at bytes) = put-true put in
+    let p : (at + length bytes ≤ end_of now) × (next ≡ at + length bytes) × (now' ≡ overwritten now at bytes) = put-ok put in
     let fits : at + length bytes ≤ end_of out = rw (writing-end-same w) at p.0 in
     let on : rest_of text ls out i at first ≡ record { bytes = bytes ++ (rest_of text ls out (i + 1) (at + length bytes) l.kind).bytes; verdict = (rest_of text ls out (i + 1) (at + length bytes) l.kind).verdict } =
     rw here (written-fits (end_of out) at (piece bytes l.at) (pieces_after text l.kind (drop (i + 1) ls)) fits) in
     let both : overwritten (overwritten out 0 w.before) (length w.before) bytes ≡ overwritten out 0 (w.before ++ bytes) =
     ap (λ (n : ℕ). overwritten (overwritten out 0 w.before) n bytes) (sym (zero-add (length w.before)))
     ∙ overwritten-two out 0 w.before bytes (omega (arith, w.size, fits, end-within out)) in
-    rw e
+    rw p.1
     (record {
       before = w.before ++ bytes;
       size = length-append w.before bytes ∙ ap (λ (n : ℕ). n + length bytes) w.size;
       room = fits;
-      output = p.1 ∙ rw (w.output, ← w.size) both;
+      output = p.2 ∙ rw (w.output, ← w.size) both;
       bytes = w.bytes ∙ ap (λ (r : Written). w.before ++ r.bytes) on ∙ sym (append_assoc w.before bytes (rest_of text ls out (i + 1) (at + length bytes) l.kind).bytes);
       verdict = w.verdict ∙ ap (λ (r : Written). r.verdict) on;
     })
@@ -90,10 +81,10 @@ writing-last {text} {ls} {out} {now} {i} {at} {first} v w last =
 
 -- a piece that is not written
 pub writing-stop : {text : List ℕ} {ls : List Lexeme} {out now now' : List ℕ} {i at first : ℕ} (l : Lexeme) → Writing text ls out now i at first → drop i ls ≡ l ∷ drop (i + 1) ls
-    → Put (piece_of text first l) at now false now' → WritesPieces text ls out (refuse OutputFull l.at) at now'
+    → Put (piece_of text first l) at now (Err full) now' → WritesPieces text ls out (refuse OutputFull l.at) at now'
 writing-stop {text} {ls} {out} {now} {now'} {i} {at} {first} l w here put =
     let bytes : List ℕ = piece_of text first l in
-    let p : (end_of now < at + length bytes) × (now' ≡ now) = put-false put in
+    let p : (end_of now < at + length bytes) × (now' ≡ now) = put-err put in
     let full : end_of out < at + length bytes = rw (writing-end-same w) at p.0 in
     rw p.1 (writing-last (refuse OutputFull l.at) w (rw here (written-stops (end_of out) at (piece bytes l.at) (pieces_after text l.kind (drop (i + 1) ls)) full)))
 

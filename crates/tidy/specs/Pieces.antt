@@ -4,7 +4,6 @@ use Rattle.rules.specs.Answers.{Verdict}
 use Rattle.rules.specs.Source.{resolved}
 use Rattle.rules.specs.Kinds.{Blank}
 use Rattle.rules.specs.Lent.{Lexeme}
-use Rattle.rules.specs.Lexing.{Lexed as LexedRule}
 use Rattle.rules.specs.Output.{Piece, piece, end_of, written, overwritten}
 use Rattle.rules.specs.Tidy.{gap}
 use Rattle.source.specs.Meaning.{part_of}
@@ -19,7 +18,3 @@ pub record WritesPieces (text : List ℕ) (ls : List Lexeme) (out : List ℕ) (v
   pub answered : verdict ≡ (written (end_of out) 0 (pieces_after text Blank ls)).verdict
   pub bytes : n ≡ length (written (end_of out) 0 (pieces_after text Blank ls)).bytes
   pub output : out' ≡ overwritten out 0 (written (end_of out) 0 (pieces_after text Blank ls)).bytes
-
--- a result with another verdict
-abbrev pub answered_with : Verdict → LexedRule → LexedRule
-answered_with v r = record { verdict = v; lexemes = r.lexemes; steps = r.steps; kept = r.kept; dropped = r.dropped; deepest = r.deepest }

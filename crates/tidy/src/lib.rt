@@ -2,83 +2,57 @@
 #![tactic(auto)]
 
 ghost use Rattle.std.specs.Prelude.{◌≡◌, take};
-ghost use Rattle.rules.specs.Lent.{lexemes_in, lent};
+ghost use Rattle.rules.specs.Lent.{contents};
 ghost use Rattle.rules.specs.Tidy.{Tidies};
 ghost use Rattle.source.specs.Meaning.{verdict_meant};
+ghost use Rattle.list.specs.Entries.{list_meant, lent_in, SameArrays};
 ghost use Rattle.lexer.specs.Results.{lexed_meant};
-ghost use Rattle.tidy.specs.Pieces.{WritesPieces, answered_with};
+ghost use Rattle.tidy.specs.Pieces.{WritesPieces};
 
 use lexer::Lexed;
-use rules::{kind, refusal};
-use source::Verdict;
+use list::{List, ListMut};
+use output::Full;
+use rules::{Reason, kind};
+use source::Refusal;
 
 // What lexing answered, or the writing after it, and how many bytes were written.
-#[derive(Clone, Copy)]
+#[derive(Clone, Copy, Debug, PartialEq, Eq)]
 pub struct Tidied {
     pub lexed: Lexed,
     pub written: usize,
 }
 
 // What the writing answers, and how many bytes were written.
-#[derive(Clone, Copy)]
+#[derive(Clone, Copy, Debug, PartialEq, Eq)]
 pub struct Wrote {
-    pub answer: Verdict,
+    pub answer: Result<(), Refusal>,
     pub bytes: usize,
 }
 
-fn finish(answer: Verdict, bytes: usize) -> Wrote
-    ensures { (result.answer ≡ answer) × (result.bytes ≡ bytes) }
-{
-    Wrote {
-        answer: answer,
-        bytes: bytes,
-    }
-}
-
 // Writes the lexemes of a list, from the output's start. "Nothing before the first": as after a Blank.
-fn write_lexemes(
-    text: &[u8],
-    kinds: &[u8],
-    words: &[u64],
-    lexemes: usize,
-    output: &mut [u8],
-) -> Wrote
-    ensures { WritesPieces text.now (take lexemes (lexemes_in kinds.now words.now)) output.old (verdict_meant result.answer) result.bytes output.new }
+fn write_lexemes(text: &[u8], list: List<'_>, lexemes: usize, output: &mut [u8]) -> Wrote
+    ensures { WritesPieces text.now (take lexemes (contents (list_meant list.entry))) output.old (verdict_meant result.answer) result.bytes output.new }
 {
-    let end = list::end(kinds, words, lexemes);
-    let mut i: usize = 0;
     let mut at: usize = 0;
     let mut first = kind::BLANK;
-    while i < end {
-        let entry = list::get(kinds, words, i);
-        let second = entry.kind;
-        let span = entry.at;
-        let between = gap::gap_between(first, second);
-        let lexeme = source::resolve(text, span);
-        if !gap::put_piece(between, lexeme, output, at) {
-            return finish(
-                Verdict::Refused(source::refuse(refusal::OUTPUT_FULL, span)),
-                at,
-            );
+    for i in 0..list.end(lexemes) {
+        let entry = list.get(i);
+        let between = gap::gap_between(first, entry.kind);
+        let lexeme = source::resolve(text, entry.at);
+        match gap::put_piece(between, lexeme, output, at) {
+            Ok(next) => at = next,
+            Err(Full) => {
+                return Wrote {
+                    answer: Err(source::refuse(Reason::OutputFull, entry.at)),
+                    bytes: at,
+                };
+            }
         }
-        at = at + gap::gap_length(between) + lexeme.len();
-        first = second;
-        i += 1;
+        first = entry.kind;
     }
-    finish(Verdict::Accepted, at)
-}
-
-// The result of lexing with another answer.
-fn answered(lexed: Lexed, answer: Verdict) -> Lexed
-    ensures { lexed_meant result ≡ answered_with (verdict_meant answer) (lexed_meant lexed) }
-{
-    Lexed {
-        answer: answer,
-        lexemes: lexed.lexemes,
-        steps: lexed.steps,
-        kept: lexed.kept,
-        dropped: lexed.dropped,
-        deepest: lexed.deepest,
+    Wrote {
+        answer: Ok(()),
+        bytes: at,
     }
 }
 
@@ -86,27 +60,24 @@ fn answered(lexed: Lexed, answer: Verdict) -> Lexed
 pub fn tidy(
     doc: u32,
     text: &[u8],
-    kinds: &mut [u8],
-    words: &mut [u64],
-    skinds: &mut [u8],
-    swords: &mut [u64],
+    list: &mut ListMut<'_>,
+    stack: &mut ListMut<'_>,
     output: &mut [u8],
 ) -> Tidied
-    ensures { Tidies doc text.now (lent kinds.old words.old) (lent skinds.old swords.old) output.old (lexed_meant result.lexed) result.written (lent kinds.new words.new) (lent skinds.new swords.new) output.new }
+    ensures tidies { Tidies doc text.now (lent_in list.old) (lent_in stack.old) output.old (lexed_meant result.lexed) result.written (lent_in list.new) (lent_in stack.new) output.new }
+    ensures same_list { SameArrays list.old list.new }
+    ensures same_stack { SameArrays stack.old stack.new }
 {
-    let lexed = lexer::lex(doc, text, kinds, words, skinds, swords);
-    let answer = lexed.answer;
-    let Verdict::Accepted = answer else {
-        return Tidied {
-            lexed: lexed,
-            written: 0,
-        };
+    let lexed = lexer::lex(doc, text, list, stack);
+    let Ok(()) = lexed.answer else {
+        return Tidied { lexed, written: 0 };
     };
-    let wrote = write_lexemes(text, kinds, words, lexed.lexemes, output);
-    let after = wrote.answer;
-    let result = answered(lexed, after);
+    let wrote = write_lexemes(text, list.list(), lexed.lexemes, output);
     Tidied {
-        lexed: result,
+        lexed: Lexed {
+            answer: wrote.answer,
+            ..lexed
+        },
         written: wrote.bytes,
     }
 }

@@ -8,49 +8,38 @@ use lib.Dec.{eqb}
 use borrow.Author.Tests.{eqb-true}
 use Rattle.rules.specs.Kinds.{HoleOpen, PlainTriple, FormatTriple, is_quote_open, is_triple, is_opener}
 use Rattle.rules.proofs.Text.{decide}
-use Rattle.token.specs.Codes.{quote_code, if_opener}
-use Rattle.token.specs.declared.StringPrefix.{StringPrefix}
-use Rattle.token.specs.declared.StringPrefix.TheVariants.{None, Format}
-use Rattle.token.specs.declared.QuoteStyle.{QuoteStyle}
-use Rattle.token.specs.declared.QuoteStyle.TheVariants.{Double, Triple}
+use Rattle.token.specs.Codes.{if_opener}
 
 -- the code of what was opened is the opener's
-pub opener-code : (k s : ℕ) → some s ≡ if_opener k → s ≡ k
+pub opener_code : (k s : ℕ) → some s ≡ if_opener k → s ≡ k
 unfolding if_opener
-opener-code k s h = by (is_opener k) h
+opener_code k s h = by (is_opener k) h
   where
     by : (b : Bool) → some s ≡ cond b (some k) none → s ≡ k
     by true e = cc
     by false e = let w : ◌≡◌ {A = ℕ} 0 1 = cc in absurd (omega arith)
 
-pub no-opener : (k : ℕ) → none ≡ if_opener k → is_opener k ≡ false
+pub no_opener : (k : ℕ) → none ≡ if_opener k → is_opener k ≡ false
 unfolding if_opener
-no-opener k h = by (is_opener k) h
+no_opener k h = by (is_opener k) h
   where
     by : (b : Bool) → none ≡ cond b (some k) none → b ≡ false
     by true e = let w : ◌≡◌ {A = ℕ} 0 1 = cc in absurd (omega arith)
     by false e = refl
 
 -- what is no opener opens no string and no hole
-pub no-quote : (k : ℕ) → is_opener k ≡ false → is_quote_open k ≡ false
+pub no_quote : (k : ℕ) → is_opener k ≡ false → is_quote_open k ≡ false
 unfolding is_opener
-no-quote k h = decide (is_quote_open k) (λ e. absurd (false≢true (sym (rw e at h)))) (λ e. e)
+no_quote k h = decide (is_quote_open k) (λ e. absurd (false≢true (sym (rw e at h)))) (λ e. e)
 
-pub no-hole : (k : ℕ) → is_opener k ≡ false → eqb k HoleOpen ≡ false
+pub no_hole : (k : ℕ) → is_opener k ≡ false → eqb k HoleOpen ≡ false
 unfolding is_opener
-no-hole k h = decide (eqb k HoleOpen) (λ e. absurd (false≢true (sym (rw (eqb-true k HoleOpen e) at h)))) (λ e. e)
-
--- every quote's code is a QuoteOpen's
-pub quote-code : (p : StringPrefix) (s : QuoteStyle) → is_quote_open (quote_code p s) ≡ true
-quote-code None Double = refl
-quote-code None Triple = refl
-quote-code Format Double = refl
-quote-code Format Triple = refl
+no_hole k h = decide (eqb k HoleOpen) (λ e. absurd (false≢true (sym (rw (eqb-true k HoleOpen e) at h)))) (λ e. e)
 
 -- a triple quote is an opener, so what is no opener is none
-pub no-triple : (k : ℕ) → is_opener k ≡ false → is_triple k ≡ false
+pub no_triple : (k : ℕ) → is_opener k ≡ false → is_triple k ≡ false
 unfolding is_opener
-no-triple k h = decide (eqb k PlainTriple)
+no_triple k h = decide (eqb k PlainTriple)
     (λ e. absurd (false≢true (sym (rw (eqb-true k PlainTriple e) at h))))
     (λ e. decide (eqb k FormatTriple)
     (λ f. absurd (false≢true (sym (rw (eqb-true k FormatTriple f) at h))))

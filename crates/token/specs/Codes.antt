@@ -1,5 +1,5 @@
 -- The kind code of each token and of each state's opener, by the paper's names.
-use Rattle.std.specs.Prelude.{ℕ, Bool, cond, ◌||◌, leb, eqb}
+use Rattle.std.specs.Prelude.{ℕ, Bool, cond, ◌||◌, leb, eqb, Option as CodeOption, Some as CodeSome, None as CodeNone, Result, Ok, Err}
 use Rattle.std.proofs.Math.Option.{Option, none, some}
 use Rattle.rules.specs.Kinds as Kinds
 use Rattle.token.specs.declared.StringPrefix.{StringPrefix}
@@ -10,10 +10,7 @@ use Rattle.token.specs.declared.Escape.{Escape as EscapeKind}
 use Rattle.token.specs.declared.Escape.TheVariants.{Single, Unicode4, UnicodeDelim}
 use Rattle.token.specs.declared.State.{State}
 use Rattle.token.specs.declared.State.TheVariants.{Brace, Paren, Bracket, String, Format, Hole}
-use Rattle.token.specs.declared.AsToken.{AsToken}
-use Rattle.token.specs.declared.AsToken.TheVariants.{Token as KnownToken, Unknown}
-use Rattle.token.specs.declared.Opened.{Opened}
-use Rattle.token.specs.declared.Opened.TheVariants.{State as OpenedState, NoOpener}
+use Rattle.token.specs.declared.UnknownKind.{UnknownKind}
 use Rattle.token.specs.declared.Token.{Token}
 use Rattle.token.specs.declared.Token.TheVariants.{Space, Blank, Shebang, LineComment, Ident, QuoteOpen, QuoteClose, StringInner, Escape, HoleOpen, HoleClose, NumHexadecimal, NumBinary, NumDecimal, KwAnd, KwAssert, KwFalse, KwFor, KwElse, KwIf, KwImport, KwIn, KwLet, KwNot, KwNull, KwOr, KwTrace, KwTrue, LParen, RParen, LBracket, RBracket, LBrace, RBrace, Lt, Gt, LtEq, GtEq, Eq2, Neq, ThinArrow, FatArrow, Eq1, Bang, Star, Plus, Comma, Minus, Dot, DotDot, DotDotDot, Slash, Colon, Semicolon, Pipe}
 
@@ -95,13 +92,13 @@ state_code (Format style) = quote_code FormatPrefix style
 state_code Hole = Kinds.HoleOpen
 
 -- of the answers to a code: the code of the token, or of the state's opener
-unfoldable pub token_meant : AsToken → Option ℕ
-token_meant (KnownToken t) = some (code_of t)
-token_meant Unknown = none
+unfoldable pub token_meant : Result Token UnknownKind → Option ℕ
+token_meant (Ok t) = some (code_of t)
+token_meant (Err e) = none
 
-unfoldable pub state_meant : Opened → Option ℕ
-state_meant (OpenedState s) = some (state_code s)
-state_meant NoOpener = none
+unfoldable pub state_meant : CodeOption State → Option ℕ
+state_meant (CodeSome s) = some (state_code s)
+state_meant CodeNone = none
 
 -- a code is a kind's from Space to Pipe
 unfoldable pub if_kind : ℕ → Option ℕ

@@ -6,19 +6,22 @@
 #![tactic(auto)]
 
 // The kinds of lexemes, what can be open, and their codes; the class of each byte value.
-ghost use Rattle.std.specs.Prelude.{◌≤◌, ◌≡◌, ◌||◌, eqb, get_or};
+ghost use Rattle.std.specs.Prelude.{◌≡◌, ◌||◌, eqb, get_or};
 ghost use Rattle.rules.specs.Bytes.{class_of};
-ghost use Rattle.rules.specs.Kinds.{Pipe, HoleOpen, is_quote_open, is_triple, is_escape, is_opener, is_closer};
+ghost use Rattle.rules.specs.Reasons.{number_of};
+ghost use Rattle.rules.specs.Kinds.{HoleOpen, is_quote_open, is_triple, is_escape, is_opener, is_closer};
 ghost use Rattle.rules.specs.Lexing.{unclosed};
 ghost use Rattle.token.specs.Codes.{quote_code, escape_code, code_of, state_code, token_meant, state_meant, if_kind, if_opener, joins_next};
 ghost use Rattle.token.specs.declared.StringPrefix.TheVariants.{None, Format};
 ghost use Rattle.token.specs.Table.{IsTable};
 
 use rules::class::{CONTROL, DIGIT, LETTER, OVER127, PUNCTUATION, WHITESPACE};
-use rules::{kind, refusal};
+use rules::{Reason, kind};
+use std::error::Error;
+use std::fmt;
 
 // What quote style a string literal is quoted in (`"` or `"""`).
-#[derive(Clone, Copy)]
+#[derive(Clone, Copy, Debug, PartialEq, Eq)]
 pub enum QuoteStyle {
     // A string delimited by double quotes (`"`).
     Double,
@@ -27,7 +30,7 @@ pub enum QuoteStyle {
 }
 
 // An escape sequence inside a string literal.
-#[derive(Clone, Copy)]
+#[derive(Clone, Copy, Debug, PartialEq, Eq)]
 pub enum Escape {
     // A single-character escape sequence, e.g. `\n` or `\\`.
     Single,
@@ -38,7 +41,7 @@ pub enum Escape {
 }
 
 // Whether a string literal is a format string or a regular string.
-#[derive(Clone, Copy)]
+#[derive(Clone, Copy, Debug, PartialEq, Eq)]
 pub enum StringPrefix {
     // No prefix, just the quotes: a regular string literal.
     None,
@@ -46,7 +49,7 @@ pub enum StringPrefix {
     Format,
 }
 
-#[derive(Clone, Copy)]
+#[derive(Clone, Copy, Debug, PartialEq, Eq)]
 pub enum Token {
     // A sequence of ascii whitespace not significant for reformatting. Note, this token gets discarded from the result, it is there for internal use in the lexer on only.
     Space,
@@ -161,7 +164,7 @@ pub enum Token {
 }
 
 // A state in the state stack of the lexer: what is open.
-#[derive(Clone, Copy)]
+#[derive(Clone, Copy, Debug, PartialEq, Eq)]
 pub enum State {
     // Inside a `{}` in expression context.
     Brace,
@@ -177,46 +180,83 @@ pub enum State {
     Hole,
 }
 
-// The token of a kind code, or none.
-#[derive(Clone, Copy)]
-pub enum AsToken {
-    Token(Token),
-    Unknown,
-}
+// A code that is no kind's.
+#[derive(Clone, Copy, Debug, PartialEq, Eq)]
+pub struct UnknownKind(pub u8);
 
-// What an opener's code has opened, or none: it is no opener's.
-#[derive(Clone, Copy)]
-pub enum Opened {
-    State(State),
-    NoOpener,
-}
-
-pub fn quote_code(prefix: StringPrefix, style: QuoteStyle) -> u8
-    ensures { result ≡ quote_code prefix style }
-{
-    match prefix {
-        StringPrefix::None => match style {
-            QuoteStyle::Double => kind::PLAIN_DOUBLE,
-            QuoteStyle::Triple => kind::PLAIN_TRIPLE,
-        },
-        StringPrefix::Format => match style {
-            QuoteStyle::Double => kind::FORMAT_DOUBLE,
-            QuoteStyle::Triple => kind::FORMAT_TRIPLE,
-        },
+impl fmt::Display for UnknownKind {
+    fn fmt<W: fmt::Write>(&self, f: &mut fmt::Formatter<W>) -> fmt::Result {
+        write!(f, "no kind of lexeme has code {}", self.0)
     }
 }
 
-pub fn escape_code(escape: Escape) -> u8
-    ensures { result ≡ escape_code escape }
+impl Error for UnknownKind {}
+
+impl QuoteStyle {
+    // Whether the quotes are triple.
+    pub fn is_triple(self) -> bool
+        ensures { (result ≡ is_triple (quote_code None self)) × (result ≡ is_triple (quote_code Format self)) }
+    {
+        self == QuoteStyle::Triple
+    }
+}
+
+impl State {
+    // Whether what was opened is a string.
+    #[tactic(auto, unfolding(crate::specs::Codes::state_code))]
+    pub fn is_string(self) -> bool
+        ensures { result ≡ is_quote_open (state_code self) }
+    {
+        matches!(self, State::String(_) | State::Format(_))
+    }
+
+    // Whether what was opened is a string in triple quotes.
+    #[tactic(auto, unfolding(crate::specs::Codes::state_code))]
+    pub fn is_triple(self) -> bool
+        ensures { result ≡ is_triple (state_code self) }
+    {
+        match self {
+            State::String(style) | State::Format(style) => style.is_triple(),
+            State::Brace | State::Paren | State::Bracket | State::Hole => false,
+        }
+    }
+
+    // Whether what was opened is a string or a hole.
+    #[tactic(auto, unfolding(crate::specs::Codes::state_code))]
+    pub fn is_string_or_hole(self) -> bool
+        ensures { result ≡ (is_quote_open (state_code self) || eqb (state_code self) HoleOpen) }
+    {
+        self.is_string() || self == State::Hole
+    }
+}
+
+// The code of an opening quote.
+pub fn quote_code(prefix: StringPrefix, style: QuoteStyle) -> u8
+    ensures { result ≡ quote_code prefix style }
 {
-    match escape {
-        Escape::Single => kind::SINGLE,
-        Escape::Unicode4 => kind::UNICODE4,
-        Escape::UnicodeDelim => kind::UNICODE_DELIM,
+    match (prefix, style) {
+        (StringPrefix::None, QuoteStyle::Double) => kind::PLAIN_DOUBLE,
+        (StringPrefix::None, QuoteStyle::Triple) => kind::PLAIN_TRIPLE,
+        (StringPrefix::Format, QuoteStyle::Double) => kind::FORMAT_DOUBLE,
+        (StringPrefix::Format, QuoteStyle::Triple) => kind::FORMAT_TRIPLE,
+    }
+}
+
+impl From<Escape> for u8 {
+    ghost from_gives = { λ escape code. code ≡ escape_code escape };
+
+    fn from(escape: Escape) -> u8 {
+        match escape {
+            Escape::Single => kind::SINGLE,
+            Escape::Unicode4 => kind::UNICODE4,
+            Escape::UnicodeDelim => kind::UNICODE_DELIM,
+        }
     }
 }
 
 // The kind code of a token.
+#[tactic(auto, unfolding(crate::specs::Codes::code_of))]
+#[inline(always)]
 pub fn code(token: Token) -> u8
     ensures { result ≡ code_of token }
 {
@@ -229,7 +269,7 @@ pub fn code(token: Token) -> u8
         Token::QuoteOpen(prefix, style) => quote_code(prefix, style),
         Token::QuoteClose => kind::QUOTE_CLOSE,
         Token::StringInner => kind::STRING_INNER,
-        Token::Escape(escape) => escape_code(escape),
+        Token::Escape(escape) => u8::from(escape),
         Token::HoleOpen => kind::HOLE_OPEN,
         Token::HoleClose => kind::HOLE_CLOSE,
         Token::NumHexadecimal => kind::NUM_HEXADECIMAL,
@@ -279,144 +319,136 @@ pub fn code(token: Token) -> u8
     }
 }
 
-// The token of a code that is a kind's. A function of its own, since with its arms in `token_of` the check takes twice as long.
-fn token_by(kind: u8) -> Token
-    requires { kind ≤ Pipe }
-    ensures { code_of result ≡ kind }
-{
-    match kind {
-        kind::SPACE => Token::Space,
-        kind::BLANK => Token::Blank,
-        kind::SHEBANG => Token::Shebang,
-        kind::LINE_COMMENT => Token::LineComment,
-        kind::IDENT => Token::Ident,
-        kind::PLAIN_DOUBLE => Token::QuoteOpen(StringPrefix::None, QuoteStyle::Double),
-        kind::PLAIN_TRIPLE => Token::QuoteOpen(StringPrefix::None, QuoteStyle::Triple),
-        kind::FORMAT_DOUBLE => Token::QuoteOpen(StringPrefix::Format, QuoteStyle::Double),
-        kind::FORMAT_TRIPLE => Token::QuoteOpen(StringPrefix::Format, QuoteStyle::Triple),
-        kind::QUOTE_CLOSE => Token::QuoteClose,
-        kind::STRING_INNER => Token::StringInner,
-        kind::SINGLE => Token::Escape(Escape::Single),
-        kind::UNICODE4 => Token::Escape(Escape::Unicode4),
-        kind::UNICODE_DELIM => Token::Escape(Escape::UnicodeDelim),
-        kind::HOLE_OPEN => Token::HoleOpen,
-        kind::HOLE_CLOSE => Token::HoleClose,
-        kind::NUM_HEXADECIMAL => Token::NumHexadecimal,
-        kind::NUM_BINARY => Token::NumBinary,
-        kind::NUM_DECIMAL => Token::NumDecimal,
-        kind::KW_AND => Token::KwAnd,
-        kind::KW_ASSERT => Token::KwAssert,
-        kind::KW_FALSE => Token::KwFalse,
-        kind::KW_FOR => Token::KwFor,
-        kind::KW_ELSE => Token::KwElse,
-        kind::KW_IF => Token::KwIf,
-        kind::KW_IMPORT => Token::KwImport,
-        kind::KW_IN => Token::KwIn,
-        kind::KW_LET => Token::KwLet,
-        kind::KW_NOT => Token::KwNot,
-        kind::KW_NULL => Token::KwNull,
-        kind::KW_OR => Token::KwOr,
-        kind::KW_TRACE => Token::KwTrace,
-        kind::KW_TRUE => Token::KwTrue,
-        kind::L_PAREN => Token::LParen,
-        kind::R_PAREN => Token::RParen,
-        kind::L_BRACKET => Token::LBracket,
-        kind::R_BRACKET => Token::RBracket,
-        kind::L_BRACE => Token::LBrace,
-        kind::R_BRACE => Token::RBrace,
-        kind::LT => Token::Lt,
-        kind::GT => Token::Gt,
-        kind::LT_EQ => Token::LtEq,
-        kind::GT_EQ => Token::GtEq,
-        kind::EQ2 => Token::Eq2,
-        kind::NEQ => Token::Neq,
-        kind::THIN_ARROW => Token::ThinArrow,
-        kind::FAT_ARROW => Token::FatArrow,
-        kind::EQ1 => Token::Eq1,
-        kind::BANG => Token::Bang,
-        kind::STAR => Token::Star,
-        kind::PLUS => Token::Plus,
-        kind::COMMA => Token::Comma,
-        kind::MINUS => Token::Minus,
-        kind::DOT => Token::Dot,
-        kind::DOT_DOT => Token::DotDot,
-        kind::DOT_DOT_DOT => Token::DotDotDot,
-        kind::SLASH => Token::Slash,
-        kind::COLON => Token::Colon,
-        kind::SEMICOLON => Token::Semicolon,
-        _ => Token::Pipe, // kind::PIPE
+impl From<Token> for u8 {
+    ghost from_gives = { λ token code. code ≡ code_of token };
+
+    fn from(token: Token) -> u8 {
+        code(token)
     }
 }
 
 // The token of a kind code.
-pub fn token_of(kind: u8) -> AsToken
-    ensures { token_meant result ≡ if_kind kind }
-{
-    if kind <= kind::PIPE {
-        return AsToken::Token(token_by(kind));
+impl TryFrom<u8> for Token {
+    type Error = UnknownKind;
+
+    ghost try_from_gives = { λ code result. token_meant result ≡ if_kind code };
+
+    #[tactic(auto, unfolding(crate::specs::Codes::code_of, crate::specs::Codes::token_meant, crate::specs::Codes::if_kind))]
+    fn try_from(code: u8) -> Result<Token, UnknownKind> {
+        match code {
+            kind::SPACE => Ok(Token::Space),
+            kind::BLANK => Ok(Token::Blank),
+            kind::SHEBANG => Ok(Token::Shebang),
+            kind::LINE_COMMENT => Ok(Token::LineComment),
+            kind::IDENT => Ok(Token::Ident),
+            kind::PLAIN_DOUBLE => Ok(Token::QuoteOpen(StringPrefix::None, QuoteStyle::Double)),
+            kind::PLAIN_TRIPLE => Ok(Token::QuoteOpen(StringPrefix::None, QuoteStyle::Triple)),
+            kind::FORMAT_DOUBLE => Ok(Token::QuoteOpen(StringPrefix::Format, QuoteStyle::Double)),
+            kind::FORMAT_TRIPLE => Ok(Token::QuoteOpen(StringPrefix::Format, QuoteStyle::Triple)),
+            kind::QUOTE_CLOSE => Ok(Token::QuoteClose),
+            kind::STRING_INNER => Ok(Token::StringInner),
+            kind::SINGLE => Ok(Token::Escape(Escape::Single)),
+            kind::UNICODE4 => Ok(Token::Escape(Escape::Unicode4)),
+            kind::UNICODE_DELIM => Ok(Token::Escape(Escape::UnicodeDelim)),
+            kind::HOLE_OPEN => Ok(Token::HoleOpen),
+            kind::HOLE_CLOSE => Ok(Token::HoleClose),
+            kind::NUM_HEXADECIMAL => Ok(Token::NumHexadecimal),
+            kind::NUM_BINARY => Ok(Token::NumBinary),
+            kind::NUM_DECIMAL => Ok(Token::NumDecimal),
+            kind::KW_AND => Ok(Token::KwAnd),
+            kind::KW_ASSERT => Ok(Token::KwAssert),
+            kind::KW_FALSE => Ok(Token::KwFalse),
+            kind::KW_FOR => Ok(Token::KwFor),
+            kind::KW_ELSE => Ok(Token::KwElse),
+            kind::KW_IF => Ok(Token::KwIf),
+            kind::KW_IMPORT => Ok(Token::KwImport),
+            kind::KW_IN => Ok(Token::KwIn),
+            kind::KW_LET => Ok(Token::KwLet),
+            kind::KW_NOT => Ok(Token::KwNot),
+            kind::KW_NULL => Ok(Token::KwNull),
+            kind::KW_OR => Ok(Token::KwOr),
+            kind::KW_TRACE => Ok(Token::KwTrace),
+            kind::KW_TRUE => Ok(Token::KwTrue),
+            kind::L_PAREN => Ok(Token::LParen),
+            kind::R_PAREN => Ok(Token::RParen),
+            kind::L_BRACKET => Ok(Token::LBracket),
+            kind::R_BRACKET => Ok(Token::RBracket),
+            kind::L_BRACE => Ok(Token::LBrace),
+            kind::R_BRACE => Ok(Token::RBrace),
+            kind::LT => Ok(Token::Lt),
+            kind::GT => Ok(Token::Gt),
+            kind::LT_EQ => Ok(Token::LtEq),
+            kind::GT_EQ => Ok(Token::GtEq),
+            kind::EQ2 => Ok(Token::Eq2),
+            kind::NEQ => Ok(Token::Neq),
+            kind::THIN_ARROW => Ok(Token::ThinArrow),
+            kind::FAT_ARROW => Ok(Token::FatArrow),
+            kind::EQ1 => Ok(Token::Eq1),
+            kind::BANG => Ok(Token::Bang),
+            kind::STAR => Ok(Token::Star),
+            kind::PLUS => Ok(Token::Plus),
+            kind::COMMA => Ok(Token::Comma),
+            kind::MINUS => Ok(Token::Minus),
+            kind::DOT => Ok(Token::Dot),
+            kind::DOT_DOT => Ok(Token::DotDot),
+            kind::DOT_DOT_DOT => Ok(Token::DotDotDot),
+            kind::SLASH => Ok(Token::Slash),
+            kind::COLON => Ok(Token::Colon),
+            kind::SEMICOLON => Ok(Token::Semicolon),
+            kind::PIPE => Ok(Token::Pipe),
+            _ => Err(UnknownKind(code)),
+        }
     }
-    AsToken::Unknown
 }
 
 // The code of the opener that opens a state.
-pub fn state_code(state: State) -> u8
-    ensures { result ≡ state_code state }
-{
-    match state {
-        State::Brace => kind::L_BRACE,
-        State::Paren => kind::L_PAREN,
-        State::Bracket => kind::L_BRACKET,
-        State::String(style) => quote_code(StringPrefix::None, style),
-        State::Format(style) => quote_code(StringPrefix::Format, style),
-        State::Hole => kind::HOLE_OPEN,
+impl From<State> for u8 {
+    ghost from_gives = { λ state code. code ≡ state_code state };
+
+    #[tactic(auto, unfolding(crate::specs::Codes::state_code))]
+    fn from(state: State) -> u8 {
+        match state {
+            State::Brace => kind::L_BRACE,
+            State::Paren => kind::L_PAREN,
+            State::Bracket => kind::L_BRACKET,
+            State::String(style) => quote_code(StringPrefix::None, style),
+            State::Format(style) => quote_code(StringPrefix::Format, style),
+            State::Hole => kind::HOLE_OPEN,
+        }
     }
 }
 
-// The state that an opener's code opens.
-pub fn state_of(kind: u8) -> Opened
+// The state that an opener's code opens; none where it is no opener's. Kept: an `Option` and no `TryFrom`, since callers keep it as it is: that nothing is open is no error.
+#[tactic(auto, unfolding(crate::specs::Codes::state_code, crate::specs::Codes::state_meant, crate::specs::Codes::if_opener, rules::specs::Kinds::is_opener))]
+pub fn state_of(kind: u8) -> Option<State>
     ensures { state_meant result ≡ if_opener kind }
 {
     match kind {
-        kind::PLAIN_DOUBLE => Opened::State(State::String(QuoteStyle::Double)),
-        kind::PLAIN_TRIPLE => Opened::State(State::String(QuoteStyle::Triple)),
-        kind::FORMAT_DOUBLE => Opened::State(State::Format(QuoteStyle::Double)),
-        kind::FORMAT_TRIPLE => Opened::State(State::Format(QuoteStyle::Triple)),
-        kind::HOLE_OPEN => Opened::State(State::Hole),
-        kind::L_PAREN => Opened::State(State::Paren),
-        kind::L_BRACKET => Opened::State(State::Bracket),
-        kind::L_BRACE => Opened::State(State::Brace),
-        _ => Opened::NoOpener,
+        kind::PLAIN_DOUBLE => Some(State::String(QuoteStyle::Double)),
+        kind::PLAIN_TRIPLE => Some(State::String(QuoteStyle::Triple)),
+        kind::FORMAT_DOUBLE => Some(State::Format(QuoteStyle::Double)),
+        kind::FORMAT_TRIPLE => Some(State::Format(QuoteStyle::Triple)),
+        kind::HOLE_OPEN => Some(State::Hole),
+        kind::L_PAREN => Some(State::Paren),
+        kind::L_BRACKET => Some(State::Bracket),
+        kind::L_BRACE => Some(State::Brace),
+        _ => None,
     }
 }
 
-// What a token opens.
-pub fn opened_by(token: Token) -> Opened
+// What a token opens; nothing where it is no opener.
+#[tactic(auto, unfolding(crate::specs::Codes::state_code, crate::specs::Codes::state_meant, crate::specs::Codes::if_opener, crate::specs::Codes::code_of, rules::specs::Kinds::is_opener))]
+pub fn opened_by(token: Token) -> Option<State>
     ensures { state_meant result ≡ if_opener (code_of token) }
 {
     match token {
-        Token::QuoteOpen(prefix, style) => match prefix {
-            StringPrefix::None => Opened::State(State::String(style)),
-            StringPrefix::Format => Opened::State(State::Format(style)),
-        },
-        Token::HoleOpen => Opened::State(State::Hole),
-        Token::LParen => Opened::State(State::Paren),
-        Token::LBracket => Opened::State(State::Bracket),
-        Token::LBrace => Opened::State(State::Brace),
-        _ => Opened::NoOpener,
-    }
-}
-
-// Whether what was opened is a string.
-pub fn is_string(state: State) -> bool
-    ensures { result ≡ is_quote_open (state_code state) }
-{
-    match state {
-        State::String(_) => true,
-        State::Format(_) => true,
-        State::Hole => false,
-        State::Brace => false,
-        State::Paren => false,
-        State::Bracket => false,
+        Token::QuoteOpen(StringPrefix::None, style) => Some(State::String(style)),
+        Token::QuoteOpen(StringPrefix::Format, style) => Some(State::Format(style)),
+        Token::HoleOpen => Some(State::Hole),
+        Token::LParen => Some(State::Paren),
+        Token::LBracket => Some(State::Bracket),
+        Token::LBrace => Some(State::Brace),
+        _ => None,
     }
 }
 
@@ -424,24 +456,9 @@ pub fn is_string(state: State) -> bool
 pub fn is_quote_open(kind: u8) -> bool
     ensures { result ≡ is_quote_open kind }
 {
-    let opened = state_of(kind);
-    let Opened::State(state) = opened else {
-        return false;
-    };
-    is_string(state)
-}
-
-// Whether what was opened is a string in triple quotes.
-pub fn is_triple_string(state: State) -> bool
-    ensures { result ≡ is_triple (state_code state) }
-{
-    match state {
-        State::String(style) => is_triple_style(style),
-        State::Format(style) => is_triple_style(style),
-        State::Brace => false,
-        State::Paren => false,
-        State::Bracket => false,
-        State::Hole => false,
+    match state_of(kind) {
+        Some(state) => state.is_string(),
+        None => false,
     }
 }
 
@@ -449,20 +466,9 @@ pub fn is_triple_string(state: State) -> bool
 pub fn is_triple(kind: u8) -> bool
     ensures { result ≡ is_triple kind }
 {
-    let opened = state_of(kind);
-    let Opened::State(state) = opened else {
-        return false;
-    };
-    is_triple_string(state)
-}
-
-// Whether quotes of a style are triple.
-pub fn is_triple_style(style: QuoteStyle) -> bool
-    ensures { (result ≡ is_triple (quote_code None style)) × (result ≡ is_triple (quote_code Format style)) }
-{
-    match style {
-        QuoteStyle::Double => false,
-        QuoteStyle::Triple => true,
+    match state_of(kind) {
+        Some(state) => state.is_triple(),
+        None => false,
     }
 }
 
@@ -470,45 +476,34 @@ pub fn is_triple_style(style: QuoteStyle) -> bool
 pub fn is_escape(kind: u8) -> bool
     ensures { result ≡ is_escape kind }
 {
-    (kind::SINGLE <= kind) & (kind <= kind::UNICODE_DELIM)
-}
-
-// Whether what was opened is a string or a hole.
-pub fn is_string_or_hole(state: State) -> bool
-    ensures { result ≡ (is_quote_open (state_code state) || eqb (state_code state) HoleOpen) }
-{
-    match state {
-        State::String(_) => true,
-        State::Format(_) => true,
-        State::Hole => true,
-        State::Brace => false,
-        State::Paren => false,
-        State::Bracket => false,
-    }
+    matches!(kind, kind::SINGLE..=kind::UNICODE_DELIM)
 }
 
 // "Openers (QuoteOpen, HoleOpen)" of a string's parts: the brackets of an expression are none.
 pub fn opens_string_or_hole(kind: u8) -> bool
     ensures { result ≡ (is_quote_open kind || eqb kind HoleOpen) }
 {
-    let opened = state_of(kind);
-    let Opened::State(state) = opened else {
-        return false;
-    };
-    is_string_or_hole(state)
+    match state_of(kind) {
+        Some(state) => state.is_string_or_hole(),
+        None => false,
+    }
 }
 
 // "QuoteOpen, StringInner, Escape or HoleClose": what follows is the string's. By codes, since the tidy writer asks it of every lexeme.
+#[tactic(auto, unfolding(crate::specs::Codes::joins_next))]
 pub fn joins_next(kind: u8) -> bool
     ensures { result ≡ joins_next kind }
 {
-    (kind::PLAIN_DOUBLE <= kind) & (kind <= kind::FORMAT_TRIPLE)
-        | (kind == kind::STRING_INNER)
-        | is_escape(kind)
-        | (kind == kind::HOLE_CLOSE)
+    matches!(
+        kind,
+        kind::PLAIN_DOUBLE..=kind::FORMAT_TRIPLE
+            | kind::STRING_INNER..=kind::UNICODE_DELIM
+            | kind::HOLE_CLOSE
+    )
 }
 
-// Whether a lexeme opens: codes 5 to 8, 14, 33, 35, 37.
+// Whether a lexeme opens: codes 5 to 8, 14, 33, 35, 37. Kept: by comparisons, here and in `closes`; with `matches!` the loop of `lex` takes 2 % more instructions on the move table, and misses twice the Rust there with both lists warm.
+#[tactic(auto, unfolding(rules::specs::Kinds::is_opener))]
 pub fn opens(kind: u8) -> bool
     ensures { result ≡ is_opener kind }
 {
@@ -520,6 +515,7 @@ pub fn opens(kind: u8) -> bool
 }
 
 // Whether it closes: codes 9, 15, 34, 36, 38.
+#[tactic(auto, unfolding(rules::specs::Kinds::is_closer))]
 pub fn closes(kind: u8) -> bool
     ensures { result ≡ is_closer kind }
 {
@@ -530,17 +526,16 @@ pub fn closes(kind: u8) -> bool
         | (kind == kind::R_BRACE)
 }
 
-// The refusal of an opener that is never closed.
-pub fn unclosed_number(kind: u8) -> u8
-    ensures { result ≡ unclosed kind }
+// Why an opener that is never closed is refused.
+#[tactic(auto, unfolding(rules::specs::Lexing::unclosed))]
+pub fn unclosed(kind: u8) -> Reason
+    ensures { number_of result ≡ unclosed kind }
 {
     match kind {
-        kind::HOLE_OPEN => refusal::UNCLOSED_HOLE,
-        kind::FORMAT_DOUBLE => refusal::UNCLOSED_FORMAT,
-        kind::FORMAT_TRIPLE => refusal::UNCLOSED_FORMAT,
-        kind::PLAIN_DOUBLE => refusal::UNCLOSED_STRING,
-        kind::PLAIN_TRIPLE => refusal::UNCLOSED_STRING,
-        _ => refusal::UNCLOSED_BRACKET,
+        kind::HOLE_OPEN => Reason::UnclosedHole,
+        kind::FORMAT_DOUBLE | kind::FORMAT_TRIPLE => Reason::UnclosedFormat,
+        kind::PLAIN_DOUBLE | kind::PLAIN_TRIPLE => Reason::UnclosedString,
+        _ => Reason::UnclosedBracket,
     }
 }
 

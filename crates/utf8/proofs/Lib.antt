@@ -1,8 +1,8 @@
--- laws of the records of specs/Ahead.antt
+-- places of a text over which the check has gone
 pub mod Ahead
+-- the character at the front of a text
+pub mod Front
 -- from byte to byte through characters of any length
 pub mod Reading
--- what the tests of the code tell: laws of the records of specs/Blocks.antt
-pub mod Blocks
 -- the bytes of a scalar value
 pub mod Scalars

@@ -1,12 +1,13 @@
 -- Reading a text byte by byte through characters of any length. What carries it: `step`, over one byte that follows the three before it.
-use Prim.Native.Nat.{ℕ, zero, suc, ◌+◌, ◌≤◌, ◌<◌}
+use Prim.Native.Nat.{ℕ, zero, suc, ◌+◌, ◌-◌, ◌≤◌, ◌<◌}
 use mathlib.Core.Path.{◌≡◌, refl, sym, ◌∙◌}
 use mathlib.Core.Bool.{cond}
 use mathlib.Core.List.{List, [], ◌∷◌, ◌++◌}
 use native.Mathlib.Nat.{add-zero}
 use native.Mathlib.Numerals.{add-one}
 use native.Mathlib.Omega.{arith}
-use lib.ListN.{length, get_or, drop}
+use lib.ListN.{length, get_or, take, drop}
+use Rattle.std.proofs.Common.{All, length-take, length-drop, get_or-take, get_or-drop}
 use lib.Seq.{drop-cons}
 use lib.Dec.{leb, ltb}
 use borrow.Author.Tests.{ltb-true, ltb-false, le-leb, lt-leb}
@@ -14,7 +15,7 @@ use Rattle.rules.specs.Utf8.{Octet, UTF8-tail, UTF8-char, UTF8-1, UTF8-2, UTF8-3
 use Rattle.rules.proofs.Text.{decide}
 use Rattle.rules.proofs.Rfc3629.{char-length}
 use Rattle.utf8.specs.Ahead.{Ahead}
-use Rattle.utf8.specs.Blocks.{Follows, FollowsAt, Good, StartsAt, last_boundary}
+use Rattle.utf8.specs.Blocks.{Follows, FollowsAt, AllFollow, Good, StartsAt, last_boundary}
 use Rattle.utf8.proofs.Ahead.{stay, join, over}
 
 -- the second byte of a character: the RFC's range for the first
@@ -134,15 +135,51 @@ on {t} {s} i h l f r =
     let w : i + 1 + 3 ≡ i + 3 + 1 = omega arith in
     rw (u, v, w) (step (get_or t (i + 3) 0) refl h l f r)
 
--- over a block
-pub over-block : {t : List ℕ} {s i : ℕ} (n : ℕ) → i + n + 3 ≤ length t → Good t i (i + n) → ReadTo t s i → ReadTo t s (i + n)
-over-block {t} {s} {i} zero h g r = rw (add-zero i) r
-over-block {t} {s} {i} (suc n) h g r =
+-- over bytes of which each follows
+over-each : {t : List ℕ} {s : ℕ} (i n : ℕ) → i + n + 3 ≤ length t → ((k : ℕ) → k < n → FollowsAt t (i + k) × (get_or t (i + k + 3) 0 ≤ 0xF4)) → ReadTo t s i → ReadTo t s (i + n)
+over-each {t} {s} i zero h g r = rw (add-zero i) r
+over-each {t} {s} i (suc n) h g r =
     let e : i + suc n ≡ i + n + 1 = omega arith in
-    let f : Good t i (i + n) = record { follows = λ k a b. g.follows k a (omega arith); low = λ k a b. g.low k a (omega arith) } in
-    rw e
-    (on (i + n) (omega arith) (g.low (i + n) (omega arith) (omega arith)) (g.follows (i + n) (omega arith) (omega arith))
-    (over-block n (omega arith) f r))
+    let f = g n (omega arith) in
+    rw e (on (i + n) (omega arith) f.1 f.0 (over-each i n (omega arith) (λ k l. g k (omega arith)) r))
+
+-- a byte of a part of a text
+part-at : (t : List ℕ) (i n k j : ℕ) → k + j < n → get_or (take n (drop i t)) (k + j) 0 ≡ get_or t (i + k + j) 0
+part-at t i n k j h =
+    let e : i + (k + j) ≡ i + k + j = omega arith in
+    rw (get_or-take, get_or-drop, e) refl
+
+-- over a block
+over-good : {t : List ℕ} {s : ℕ} (i n : ℕ) → i + (n + 3) ≤ length t → Good (take (n + 3) (drop i t)) → ReadTo t s i → ReadTo t s (i + n)
+over-good {t} i n h g r =
+    let block : List ℕ = take (n + 3) (drop i t) in
+    let size : length block ≡ n + 3 = simp (length-take, length-drop) (omega arith) in
+    over-each i n (omega arith) (λ k l.
+    let m : k + 3 < length block = omega arith in
+    let e3 = part-at t i (n + 3) k 3 (omega arith) in
+    let f : FollowsAt block k = g.follows k m in
+    let here : k < n + 3 = omega arith in
+    let e0 : get_or block k 0 ≡ get_or t (i + k) 0 = rw (get_or-take, get_or-drop) refl in
+    (rw (e0, part-at t i (n + 3) k 1 (omega arith), part-at t i (n + 3) k 2 (omega arith), e3) at f, rw e3 at (g.low k m))) r
+
+-- the same of the part up to `j`
+pub over_block : {t : List ℕ} {s : ℕ} (i j n : ℕ) → j ≡ i + n + 3 → j ≤ length t → Good (take (j - i) (drop i t)) → ReadTo t s i → ReadTo t s (i + n)
+over_block i j n e h g r =
+    let size : j - i ≡ n + 3 = omega arith in
+    over-good i n (omega arith) (rw size at g) r
+
+-- a block is good where each byte follows, and none is larger than a byte that is F4 at most
+pub good_block : {b : List ℕ} (most : ℕ) → most ≤ 0xF4 → All (λ x. x ≤ most) (take (length b - 3) (drop 3 b)) → AllFollow b → Good b
+good_block {b} most h l f =
+    record {
+      follows = f.each;
+      low = λ k m.
+          let e : 3 + k ≡ k + 3 = omega arith in
+          let i : k < length b - 3 = omega arith in
+          let at : get_or (take (length b - 3) (drop 3 b)) k 0 ≡ get_or b (k + 3) 0 = rw (get_or-take, get_or-drop, e) refl in
+          let low : get_or b (k + 3) 0 ≤ most = rw at at (l k 0 (simp (length-take, length-drop) (omega arith))) in
+          omega arith;
+    }
 
 -- back to the end of the last whole character
 ends : {t : List ℕ} {s p x y z : ℕ} (i : ℕ) → p ≡ i + 3 → Read t s p x y z → Ahead t s (cond (leb 0xC0 z) (i + 2) (cond (leb 0xE0 y) (i + 1) (cond (leb 0xF0 x) i (i + 3))))

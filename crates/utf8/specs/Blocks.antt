@@ -1,5 +1,5 @@
 -- What the private functions ensure of a block in which characters of any length stand: each byte is held against the three before it.
-use Rattle.std.specs.Prelude.{ℕ, ◌+◌, ◌≤◌, ◌<◌, ◌≡◌, Bool, true, cond, List, get_or, leb}
+use Rattle.std.specs.Prelude.{ℕ, ◌+◌, ◌≤◌, ◌<◌, ◌≡◌, cond, List, length, get_or, leb}
 use Rattle.rules.specs.Utf8.{UTF8-tail}
 
 -- what the RFC asks of a byte `d` behind `a`, `b` and `c`: a tail where a character goes on, in a narrower range behind E0, ED, F0 and F4; elsewhere ASCII, or C2 and up. That it is F4 at most stands apart, in `Good`
@@ -13,28 +13,18 @@ pub record Follows (a b c d : ℕ) : Type 0 where
   pub after-F0 : c ≡ 0xF0 → 0x80 ≤ d → 0x90 ≤ d
   pub after-F4 : c ≡ 0xF4 → d ≤ 0x8F
 
--- the same, where a test says so
-pub record IfFollows (x : Bool) (a b c d : ℕ) : Type 0 where
-  pub then : x ≡ true → Follows a b c d
-
--- the same of the byte at `k + 3`, and of each from `at + 3` to `r + 3`
+-- the same of the byte at `k + 3`
 abbrev pub FollowsAt : List ℕ → ℕ → Type 0
 FollowsAt t k = Follows (get_or t k 0) (get_or t (k + 1) 0) (get_or t (k + 2) 0) (get_or t (k + 3) 0)
 
-pub record AllFollow (x : Bool) (t : List ℕ) (at r : ℕ) : Type 0 where
-  pub each : x ≡ true → (k : ℕ) → at ≤ k → k < r → FollowsAt t k
+-- each byte of a block follows the three before it
+pub record AllFollow (b : List ℕ) : Type 0 where
+  pub each : (k : ℕ) → k + 3 < length b → FollowsAt b k
 
--- no byte from `at` to `r` is larger
-pub record Largest (m : ℕ) (t : List ℕ) (at r : ℕ) : Type 0 where
-  pub each : (k : ℕ) → at ≤ k → k < r → get_or t k 0 ≤ m
-
--- each byte from `at + 3` to `r + 3` follows, and is F4 at most
-pub record Good (t : List ℕ) (at r : ℕ) : Type 0 where
-  pub follows : (k : ℕ) → at ≤ k → k < r → FollowsAt t k
-  pub low : (k : ℕ) → at ≤ k → k < r → get_or t (k + 3) 0 ≤ 0xF4
-
-pub record IfGood (x : Bool) (t : List ℕ) (at r : ℕ) : Type 0 where
-  pub then : x ≡ true → Good t at r
+-- and is F4 at most
+pub record Good (b : List ℕ) : Type 0 where
+  pub follows : (k : ℕ) → k + 3 < length b → FollowsAt b k
+  pub low : (k : ℕ) → k + 3 < length b → get_or b (k + 3) 0 ≤ 0xF4
 
 -- three bytes with which a text can begin: no character goes on from before
 pub record Starts (a b c : ℕ) : Type 0 where
@@ -45,9 +35,6 @@ pub record Starts (a b c : ℕ) : Type 0 where
 
 abbrev pub StartsAt : List ℕ → ℕ → Type 0
 StartsAt t i = Starts (get_or t i 0) (get_or t (i + 1) 0) (get_or t (i + 2) 0)
-
-pub record IfStarts (x : Bool) (a b c : ℕ) : Type 0 where
-  pub then : x ≡ true → Starts a b c
 
 -- of the three bytes from `i` on, the one at which a character begins that goes on behind them; the place behind them where none does
 abbrev pub last_boundary : List ℕ → ℕ → ℕ

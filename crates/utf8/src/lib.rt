@@ -1,208 +1,173 @@
 // UTF-8 by RFC 3629: whether a text is UTF-8, and where its first bad sequence begins; the bytes of a scalar value.
 #![tactic(auto)]
 
+mod character;
 mod encoding;
 
-ghost use Rattle.std.specs.Prelude.{◌≡◌, ℕ, ◌+◌, ◌≤◌, ◌<◌, length, drop};
-ghost use Rattle.rules.specs.Utf8.{is_octet, is_two, is_three, is_four, char_length, first_bad};
+ghost use Rattle.std.specs.Prelude.{◌≡◌, ℕ, ◌+◌, ◌≤◌, ◌<◌, length, drop, All, IsTrue, MatchOption, ◌++◌, Some, codes, decimal};
+ghost use Rattle.rules.specs.Utf8.{is_two, is_three, is_four, char_length, first_bad};
 ghost use Rattle.rules.specs.Source.{utf8_verdict};
 ghost use Rattle.utf8.specs.Meaning.{checked_meant, verdict_meant};
-ghost use Rattle.utf8.specs.Ahead.{Ahead, IfSo, Next};
-ghost use Rattle.utf8.specs.Blocks.{IfFollows, AllFollow, Largest, IfGood, StartsAt, IfStarts, last_boundary};
+ghost use Rattle.utf8.specs.Ahead.{Ahead};
+ghost use Rattle.utf8.specs.Blocks.{Follows, AllFollow, Good, Starts, StartsAt, last_boundary};
 
+pub use character::Encoded;
 pub use encoding::{encode, is_scalar};
+use std::error::Error;
+use std::fmt;
 
-// The whole text is UTF-8, or where its first bad sequence begins.
-#[derive(Clone, Copy)]
-pub enum Checked {
-    Valid,
-    BadAt(usize),
+// Where the first bad sequence begins: the text is UTF-8 up to there.
+#[derive(Clone, Copy, Debug, PartialEq, Eq)]
+pub struct Utf8Error {
+    pub valid_up_to: usize,
 }
 
-// The bytes of a character: so many of four.
-#[derive(Clone, Copy)]
-pub struct Encoded {
-    pub bytes: [u8; 4],
-    pub length: usize,
+impl fmt::Display for Utf8Error {
+    ghost output = { λ e. Some (codes "invalid utf-8 sequence at byte " ++ decimal e.valid_up_to) };
+
+    fn fmt<W: fmt::Write>(&self, f: &mut fmt::Formatter<W>) -> fmt::Result {
+        write!(f, "invalid utf-8 sequence at byte {}", self.valid_up_to)
+    }
 }
 
-// From `lo` to `hi`, both included.
-fn octet(lo: u8, hi: u8, b: u8) -> bool
-    ensures { result ≡ is_octet lo hi b }
-{
-    (lo <= b) & (b <= hi)
-}
+impl Error for Utf8Error {}
 
 // UTF8-2
+#[tactic(auto, unfolding(rules::specs::Utf8::is_two))]
 fn two(a: u8, b: u8) -> bool
     ensures { result ≡ is_two a b }
 {
-    octet(0xC2, 0xDF, a) & octet(0x80, 0xBF, b)
+    matches!((a, b), (0xC2..=0xDF, 0x80..=0xBF))
 }
 
 // UTF8-3
+#[tactic(auto, unfolding(rules::specs::Utf8::is_three))]
 fn three(a: u8, b: u8, c: u8) -> bool
     ensures { result ≡ is_three a b c }
 {
-    let tb = octet(0x80, 0xBF, b);
-    let tc = octet(0x80, 0xBF, c);
-    octet(0xE0, 0xE0, a) & octet(0xA0, 0xBF, b) & tc
-        | octet(0xE1, 0xEC, a) & tb & tc
-        | octet(0xED, 0xED, a) & octet(0x80, 0x9F, b) & tc
-        | octet(0xEE, 0xEF, a) & tb & tc
+    matches!(
+        (a, b, c),
+        (0xE0, 0xA0..=0xBF, 0x80..=0xBF)
+            | (0xE1..=0xEC, 0x80..=0xBF, 0x80..=0xBF)
+            | (0xED, 0x80..=0x9F, 0x80..=0xBF)
+            | (0xEE..=0xEF, 0x80..=0xBF, 0x80..=0xBF)
+    )
 }
 
 // UTF8-4
+#[tactic(auto, unfolding(rules::specs::Utf8::is_four))]
 fn four(a: u8, b: u8, c: u8, d: u8) -> bool
     ensures { result ≡ is_four a b c d }
 {
-    let tb = octet(0x80, 0xBF, b);
-    let tc = octet(0x80, 0xBF, c);
-    let td = octet(0x80, 0xBF, d);
-    octet(0xF0, 0xF0, a) & octet(0x90, 0xBF, b) & tc & td
-        | octet(0xF1, 0xF3, a) & tb & tc & td
-        | octet(0xF4, 0xF4, a) & octet(0x80, 0x8F, b) & tc & td
+    matches!(
+        (a, b, c, d),
+        (0xF0, 0x90..=0xBF, 0x80..=0xBF, 0x80..=0xBF)
+            | (0xF1..=0xF3, 0x80..=0xBF, 0x80..=0xBF, 0x80..=0xBF)
+            | (0xF4, 0x80..=0x8F, 0x80..=0xBF, 0x80..=0xBF)
+    )
 }
 
-// How many bytes the character at a position has, 0 where none begins there.
-fn char_length(text: &[u8], at: usize) -> usize
-    requires { at < length text.now }
-    ensures { result ≡ char_length (drop at text.now) }
+// How many bytes the character at the front of a text has.
+#[tactic(auto, using(crate::proofs::Front::one_byte, crate::proofs::Front::two_bytes, crate::proofs::Front::three_bytes), unfolding(rules::specs::Utf8::char_length))]
+fn char_length(text: &[u8]) -> Option<usize>
+    ensures { MatchOption result (char_length text.now ≡ 0) (λ n. (0 < n) × (n ≡ char_length text.now)) }
 {
-    let a = text[at];
-    if a < 0x80 {
-        return 1;
+    match text {
+        [0x00..=0x7F, ..] => Some(1),
+        [a, b, ..] if two(*a, *b) => Some(2),
+        [a, b, c, ..] if three(*a, *b, *c) => Some(3),
+        [a, b, c, d, ..] if four(*a, *b, *c, *d) => Some(4),
+        _ => None,
     }
-    let b = basics::byte_at(text, at + 1);
-    if two(a, b) {
-        return 2;
-    }
-    let c = basics::byte_at(text, at + 2);
-    if three(a, b, c) {
-        return 3;
-    }
-    let d = basics::byte_at(text, at + 3);
-    if four(a, b, c, d) {
-        return 4;
-    }
-    0
 }
 
-// Whether the bytes of a block are ASCII: if so, the check goes on behind them.
-fn ascii(text: &[u8], at: usize, size: usize) -> bool
-    requires { at + size ≤ length text.now }
-    ensures { IfSo result text.now at (at + size) }
+// Whether all bytes of a block are ASCII.
+fn is_ascii(block: &[u8]) -> bool
+    ensures { IsTrue result → All (λ b. b < 0x80) block.now }
 {
-    let mut all = true;
-    let mut j = 0;
-    while j < size {
-        all = all & (text[at + j] < 128);
-        j += 1;
-    }
-    all
+    block.iter().fold(true, |all, byte| all & (*byte < 128))
 }
 
 // Passes over blocks of ASCII bytes.
-fn skip_blocks(text: &[u8], at: usize, size: usize) -> usize
-    requires { (at ≤ length text.now) × (0 < size) }
+#[tactic(auto, using(crate::proofs::Ahead::over_ascii))]
+fn skip_blocks<const SIZE: usize>(text: &[u8], at: usize) -> usize
+    requires { (at ≤ length text.now) × (0 < SIZE) }
     ensures { Ahead text.now at result }
 {
-    let n = text.len();
     let mut i = at;
-    while size <= n - i {
-        if !ascii(text, i, size) {
-            return i;
-        }
-        i += size;
+    // Kept: from block to block by hand; the place that it comes to is the answer.
+    while SIZE <= text.len() - i && is_ascii(&text[i..i + SIZE]) {
+        i += SIZE;
     }
     i
 }
 
-// Passes over ASCII bytes, far: in blocks of 128, then of 32.
+// Passes over ASCII bytes, far: in blocks of 128, then of 32; only behind one block of 32, since between other characters
+// most runs are short.
 fn skip_far(text: &[u8], at: usize) -> usize
     requires { at ≤ length text.now }
     ensures { Ahead text.now at result }
 {
-    let a = skip_blocks(text, at, 128);
-    skip_blocks(text, a, 32)
+    if text.len() - at < 32 || !is_ascii(&text[at..at + 32]) {
+        return at;
+    }
+    skip_blocks::<32>(text, skip_blocks::<128>(text, at + 32))
 }
 
-// Passes over ASCII bytes, many at a time; far only behind one block of 32: between other characters most runs are short.
+// Passes over ASCII bytes, many at a time.
 fn skip(text: &[u8], at: usize) -> usize
     requires { at ≤ length text.now }
     ensures { Ahead text.now at result }
 {
-    let mut a = at;
-    if 32 <= text.len() - at {
-        if ascii(text, at, 32) {
-            a = skip_far(text, at + 32);
-        }
-    }
-    let b = skip_blocks(text, a, 8);
-    skip_blocks(text, b, 1)
+    skip_blocks::<1>(text, skip_blocks::<8>(text, skip_far(text, at)))
 }
 
 // Whether `d`, which is F4 at most, can stand behind `a`, `b` and `c`: a tail where a character goes on, ASCII or a first
 // byte elsewhere. Tails under A0 do not follow E0, the others do not follow ED; those under 90 do not follow F0, the others
-// do not follow F4: by `^` one comparison with `c` serves both. With `d < 0x80` each test is one signed comparison.
+// do not follow F4: by `^` one comparison with `c` serves both. With `d < 0x80` each test is one signed comparison. `due` in
+// patterns: by comparisons a block takes 15 % more time.
+// Kept: the other tests by comparisons; in patterns they are as fast, and the check finds no proof.
 fn follows(a: u8, b: u8, c: u8, d: u8) -> bool
-    ensures { IfFollows result a b c d }
+    ensures { IsTrue result → Follows a b c d }
 {
-    let due = (0xF0 <= a) | (0xE0 <= b) | (0xC0 <= c);
-    let tail = octet(0x80, 0xBF, d);
+    let due = matches!(a, 0xF0..) | matches!(b, 0xE0..) | matches!(c, 0xC0..);
+    let tail = (0x80 <= d) & (d <= 0xBF);
     let first = (d < 0x80) | (0xC2 <= d);
-    let three = basics::pick((d < 0x80) | (0xA0 <= d), 0xE0 ^ 0xED, 0);
-    let four = basics::pick((d < 0x80) | (0x90 <= d), 0xF0 ^ 0xF4, 0);
+    let three = if (d < 0x80) | (0xA0 <= d) {
+        0xE0 ^ 0xED
+    } else {
+        0
+    };
+    let four = if (d < 0x80) | (0x90 <= d) {
+        0xF0 ^ 0xF4
+    } else {
+        0
+    };
     (due & tail | !due & first) & (c ^ three != 0xE0) & (c ^ four != 0xF0)
 }
 
-// Whether each byte of a block can stand behind the three before it; the block begins at `at + 3`.
-fn all_follow(text: &[u8], at: usize, size: usize) -> bool
-    requires { at + size + 3 ≤ length text.now }
-    ensures { AllFollow result text.now at (at + size) }
+// Whether each byte of a block can stand behind the three before it.
+// Kept: an index; with `windows(4)` and a `fold` a block takes 6 % more instructions.
+fn all_follow(block: &[u8]) -> bool
+    ensures { IsTrue result → AllFollow block.now }
 {
     let mut all = true;
-    let mut j = 0;
-    while j < size {
-        all = all
-            & follows(
-                text[at + j],
-                text[at + j + 1],
-                text[at + j + 2],
-                text[at + j + 3],
-            );
-        j += 1;
+    for j in 3..block.len() {
+        all &= follows(block[j - 3], block[j - 2], block[j - 1], block[j]);
     }
     all
 }
 
-// The larger of two bytes.
-fn larger(x: u8, y: u8) -> u8
-    ensures { (x ≤ result) × (y ≤ result) }
-{
-    if x < y {
-        return y;
-    }
-    x
-}
-
 // The largest byte of a block.
-fn largest(text: &[u8], at: usize, size: usize) -> u8
-    requires { at + size ≤ length text.now }
-    ensures { Largest result text.now at (at + size) }
+fn largest(block: &[u8]) -> u8
+    ensures { All (λ b. b ≤ result) block.now }
 {
-    let mut most = 0;
-    let mut j = 0;
-    while j < size {
-        most = larger(most, text[at + j]);
-        j += 1;
-    }
-    most
+    block.iter().copied().max().unwrap_or(0)
 }
 
 // Whether a text can begin with three bytes.
 fn starts(a: u8, b: u8, c: u8) -> bool
-    ensures { IfStarts result a b c }
+    ensures { IsTrue result → Starts a b c }
 {
     (a <= 0xF4)
         & (b <= 0xF4)
@@ -217,31 +182,25 @@ fn last_boundary(text: &[u8], at: usize) -> usize
     requires { at + 3 ≤ length text.now }
     ensures { result ≡ last_boundary text.now at }
 {
-    if 0xC0 <= text[at + 2] {
-        return at + 2;
+    match &text[at..at + 3] {
+        [_, _, 0xC0..=0xFF] => at + 2,
+        [_, 0xE0..=0xFF, _] => at + 1,
+        [0xF0..=0xFF, _, _] => at,
+        _ => at + 3,
     }
-    if 0xE0 <= text[at + 1] {
-        return at + 1;
-    }
-    if 0xF0 <= text[at] {
-        return at;
-    }
-    at + 3
 }
 
-// Whether a block of 64 bytes that begins at `at + 3` is good, and more than ASCII.
-fn mixed(text: &[u8], at: usize) -> bool
-    requires { at + 64 + 3 ≤ length text.now }
-    ensures { IfGood result text.now at (at + 64) }
+// So many bytes are tested at a time where characters of any length stand.
+const BLOCK: usize = 64;
+
+// Whether a block that begins behind three other bytes is good, and more than ASCII.
+#[tactic(auto, using(crate::proofs::Reading::good_block))]
+fn mixed(block: &[u8]) -> bool
+    requires { 3 ≤ length block.now }
+    ensures { IsTrue result → Good block.now }
 {
-    let most = largest(text, at + 3, 64);
-    if most < 0x80 {
-        return false;
-    }
-    if 0xF4 < most {
-        return false;
-    }
-    all_follow(text, at, 64)
+    let most = largest(&block[3..]);
+    0x80 <= most && most <= 0xF4 && all_follow(block)
 }
 
 // Passes over blocks in which characters of any length stand.
@@ -249,62 +208,58 @@ fn skip_mixed_blocks(text: &[u8], at: usize) -> usize
     requires { (at + 3 ≤ length text.now) × StartsAt text.now at }
     ensures { Ahead text.now at result }
 {
-    let n = text.len();
+    // Kept: from block to block by hand, as in `skip_blocks`: each block is looked at with the three bytes before it.
     let mut i = at;
-    while 64 + 3 <= n - i {
-        if !mixed(text, i) {
-            return last_boundary(text, i);
-        }
-        i += 64;
+    while BLOCK + 3 <= text.len() - i && mixed(&text[i..i + BLOCK + 3]) {
+        i += BLOCK;
     }
     last_boundary(text, i)
 }
 
 // Passes over characters of any length in blocks, unless ASCII bytes come next.
+// Kept: a place and no `Option`, as of each `skip`; what it passes over may be nothing.
 fn skip_mixed(text: &[u8], at: usize) -> usize
     requires { at ≤ length text.now }
     ensures { Ahead text.now at result }
 {
-    if text.len() - at < 64 + 3 {
+    if text.len() - at < BLOCK + 3
+        || is_ascii(&text[at + 3..at + 3 + BLOCK])
+        || !starts(text[at], text[at + 1], text[at + 2])
+    {
         return at;
     }
-    if ascii(text, at + 3, 64) {
-        return at;
-    }
-    if starts(text[at], text[at + 1], text[at + 2]) {
-        return skip_mixed_blocks(text, at);
-    }
-    at
+    skip_mixed_blocks(text, at)
 }
 
-// The place behind the ASCII bytes or the characters at a position; the position itself where there is neither.
-fn next(text: &[u8], at: usize) -> usize
+// The place behind the ASCII bytes or the characters at a position; none where no character begins.
+#[tactic(auto, using(crate::proofs::Ahead::over_ascii_byte, crate::proofs::Ahead::over_character, crate::proofs::Ahead::char_inside))]
+fn next(text: &[u8], at: usize) -> Option<usize>
     requires { at < length text.now }
-    ensures { Next text.now at result }
+    ensures { MatchOption result (char_length (drop at text.now) ≡ 0) (λ end. (at < end) × Ahead text.now at end) }
 {
     if text[at] < 128 {
-        return skip(text, at + 1);
+        return Some(skip(text, at + 1));
     }
-    let a = skip_mixed(text, at);
-    if at < a {
-        return a;
+    let end = skip_mixed(text, at);
+    if at < end {
+        return Some(end);
     }
-    at + char_length(text, at)
+    Some(at + char_length(&text[at..])?)
 }
 
 // Goes over the text from place to place: in blocks, and one character at a time where no block fits.
-pub fn check(text: &[u8]) -> Checked
-    ensures result_value { checked_meant result ≡ first_bad text.now }
-    ensures by_index { (doc : ℕ) → verdict_meant doc result ≡ utf8_verdict doc text.now }
+#[tactic(auto, using(crate::proofs::Ahead::bad_answer, crate::proofs::Ahead::good_answer))]
+pub fn check(text: &[u8]) -> Result<(), Utf8Error>
+    ensures first_bad { checked_meant result ≡ first_bad text.now }
+    ensures verdict { (doc : ℕ) → verdict_meant doc result ≡ utf8_verdict doc text.now }
 {
-    let n = text.len();
+    // Kept: the place jumps by what `next` passed over, so no range has these places.
     let mut i = 0;
-    while i < n {
-        let j = next(text, i);
-        if j == i {
-            return Checked::BadAt(i);
-        }
-        i = j;
+    while i < text.len() {
+        let Some(end) = next(text, i) else {
+            return Err(Utf8Error { valid_up_to: i });
+        };
+        i = end;
     }
-    Checked::Valid
+    Ok(())
 }

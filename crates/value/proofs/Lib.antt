@@ -2,7 +2,7 @@
 pub mod Refusing
 -- one part that nothing is said against, and how it is written
 pub mod OnePart
--- chunks one after another, as the parts give them
+-- pieces one after another, as the parts give them
 pub mod Chunks
 -- parts that are handed back as a part of the text
 pub mod Unbroken

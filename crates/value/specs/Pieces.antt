@@ -1,12 +1,12 @@
 -- One piece of a value, and all of them, as the writing loop meets them.
 use Rattle.std.specs.Prelude.{ℕ, ◌+◌, ◌≡◌, true, false, cond, List, leb, eqb, length}
 use Rattle.rules.specs.Refusals.{OutputFull}
-use Rattle.rules.specs.Answers.{Answer as AnswerRule, given, refused, refuse, Verdict as VerdictRule, accepted, first_refusal}
+use Rattle.rules.specs.Answers.{Answer as AnswerRule, given, refused, refuse, Verdict as VerdictRule, accepted, first_refusal, and_then, unless_refused}
 use Rattle.rules.specs.Kinds.{HoleOpen}
 use Rattle.rules.specs.Lent.{Lexeme}
 use Rattle.rules.specs.Output.{end_of, overwritten, written}
 use Rattle.rules.specs.Indent.{part_verdict}
-use Rattle.rules.specs.Value.{part_bytes, value_pieces, escape_verdict, value_written, Held as HeldRule}
+use Rattle.rules.specs.Value.{part_bytes, value_pieces, escape_verdict, value_written, indent_taken, Valued, Held as HeldRule}
 
 -- nothing is to be said against a part, or against parts
 pub record PartAccepted (text : List ℕ) (p : Lexeme) : Type 0 where
@@ -39,3 +39,15 @@ pub record AllWritten (text : List ℕ) (indent : ℕ) (ps : List Lexeme) (at : 
 pub record WrittenValue (text : List ℕ) (indent : ℕ) (ps : List Lexeme) (at : ℕ) (out : List ℕ) (answer : AnswerRule HeldRule) (out' : List ℕ) : Type 0 where
   pub answered : answer ≡ (value_written text indent ps out at).answer
   pub output : out' ≡ (value_written text indent ps out at).output
+
+-- the value of the parts of a string with this opener, or what is said against its indent or its escapes
+abbrev pub listed_value : List ℕ → (quote : ℕ) → List Lexeme → (out : List ℕ) (at : ℕ) → Valued
+listed_value text quote ps out at =
+    unless_refused
+    (and_then (first_refusal (part_verdict text) ps) (first_refusal (escape_verdict text) ps))
+    (λ r. record { answer = refused r; output = out })
+    (value_written text (indent_taken text quote ps) ps out at)
+
+pub record ListedValue (text : List ℕ) (quote : ℕ) (ps : List Lexeme) (at : ℕ) (out : List ℕ) (answer : AnswerRule HeldRule) (out' : List ℕ) : Type 0 where
+  pub answered : answer ≡ (listed_value text quote ps out at).answer
+  pub output : out' ≡ (listed_value text quote ps out at).output

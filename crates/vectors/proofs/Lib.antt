@@ -1,2 +1,0 @@
--- the lengths of large rooms
-pub mod Lent

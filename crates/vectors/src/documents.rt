@@ -1,87 +1,47 @@
 // Whole documents: `document DOC BYTES`. Each is lexed, and the value of every string in it is read and handed back.
-use crate::lists::{MARK, MARKED};
-use crate::{field, lexes, lists, strings, texts};
+use crate::arrays::{MARK, Parts};
+use crate::fields::Fields;
+use crate::lexes::Memory;
+use crate::shown::Bytes;
+use crate::{lexes, strings};
+use list::List;
 use std::io;
 use std::io::Write;
-use value::Answer;
 
-fn is_quote_open(kind: u8) -> bool {
-    (5 <= kind) & (kind <= 8)
-}
-
-// The value of the string whose opener stands at a place, and its bytes: ` ; PLACE VALUE BYTES`. The text is read from the line again: a call of `hand` is covered where both slices are locals.
-fn value_at<W: Write>(
+// The value of the string whose opener stands at a place, and its bytes: ` ; PLACE VALUE BYTES`.
+fn print_string<W: Write>(
     to: &mut W,
-    line: &[u8],
-    a: usize,
-    kinds: &[u8; 168],
-    words: &[u64; 336],
+    text: &[u8],
+    list: List<'_>,
     lexemes: usize,
     place: usize,
 ) -> io::Result<()> {
-    let mut text = [0u8; 640];
-    let n = texts::read_bytes(line, a, &mut text);
-    let mut pkinds = [MARK; 48];
-    let mut pwords = [MARKED; 96];
+    let mut arrays = Parts::marked();
+    let mut parts = arrays.whole();
     let mut output = [MARK; 72];
-    let r = value::value(
-        &text[..n],
-        kinds,
-        words,
-        lexemes,
-        place,
-        &mut pkinds,
-        &mut pwords,
-        &mut output,
-        0,
-    );
-    let answer = r.answer;
-    to.write_all(b" ;")?;
-    lists::print(to, place as u64)?;
-    to.write_all(b" ")?;
+    let answer = value::value(text, list, lexemes, place, &mut parts, &mut output, 0).answer;
+    write!(to, " ; {place} ")?;
     strings::print_value(to, answer)?;
-    let Answer::Found(held) = answer else {
-        return Ok(());
-    };
-    lists::print_bytes(to, hand::hand(&text[..n], &output, held))
+    match answer {
+        Ok(held) => write!(to, " {}", Bytes(hand::hand(text, &output, held))),
+        Err(_) => Ok(()),
+    }
 }
 
-// Every string of a list, in order.
-fn values<W: Write>(
-    to: &mut W,
-    line: &[u8],
-    a: usize,
-    kinds: &[u8; 168],
-    words: &[u64; 336],
-    lexemes: usize,
-) -> io::Result<()> {
-    for i in 0..lexemes {
-        if 168 <= i {
-            return Ok(());
-        }
-        if is_quote_open(kinds[i]) {
-            value_at(to, line, a, kinds, words, lexemes, i)?;
+pub(crate) fn document<W: Write>(to: &mut W, mut fields: Fields<'_>) -> io::Result<()> {
+    let doc = fields.number();
+    let mut room = [0; 640];
+    let text = fields.bytes(&mut room);
+    let mut memory = Memory::marked();
+    let mut list = memory.list.whole();
+    let mut stack = memory.stack.whole();
+    let lexed = lexer::lex(doc, text, &mut list, &mut stack);
+    lexes::print_lexed(to, lexed, &memory)?;
+    let list = memory.list.list();
+    for place in 0..list.end(lexed.lexemes) {
+        if token::is_quote_open(list.get(place).kind) {
+            print_string(to, text, list, lexed.lexemes, place)?;
         }
     }
     Ok(())
-}
-
-pub(crate) fn document<W: Write>(to: &mut W, line: &[u8], a: usize) -> io::Result<()> {
-    let b = field::next(line, a);
-    let mut text = [0u8; 640];
-    let n = texts::read_bytes(line, b, &mut text);
-    let mut kinds = [MARK; 168];
-    let mut words = [MARKED; 336];
-    let mut skinds = [MARK; 72];
-    let mut swords = [MARKED; 144];
-    let r = lexer::lex(
-        lexes::doc(line, a),
-        &text[..n],
-        &mut kinds,
-        &mut words,
-        &mut skinds,
-        &mut swords,
-    );
-    lexes::print_lexed(to, r, &kinds, &words, &skinds, &swords)?;
-    values(to, line, b, &kinds, &words, r.lexemes)
 }

@@ -2,10 +2,11 @@
 // what is printed to the file stdout, which has the answers of the Rust and, where it has none, of the judge. A line of another kind is printed as it is.
 #![tactic(auto)]
 
+mod arrays;
 mod documents;
-mod field;
+mod fields;
 mod lexes;
-mod lists;
+mod shown;
 mod spaces;
 mod spans;
 mod strings;
@@ -16,136 +17,60 @@ mod walks;
 
 ghost use Rattle.std.specs.Prelude.{◌≡◌, ◌≤◌, length, IfOk};
 
+use fields::Fields;
 use std::io;
 use std::io::{Read, Write};
 
-// A line on texts, spans and lexing: whether it was one.
-fn replay_text<W: Write>(to: &mut W, line: &[u8], word: usize, rest: usize) -> io::Result<bool> {
-    if field::is(line, 0, word, b"utf8") {
-        texts::utf8(to, line, rest)?;
-        return Ok(true);
-    }
-    if field::is(line, 0, word, b"span") {
-        spans::span(to, line, rest)?;
-        return Ok(true);
-    }
-    if field::is(line, 0, word, b"lex") {
-        lexes::lex(to, line, rest)?;
-        return Ok(true);
-    }
-    if field::is(line, 0, word, b"tally") {
-        tallies::tallied(to, line, rest)?;
-        return Ok(true);
-    }
-    if field::is(line, 0, word, b"document") {
-        documents::document(to, line, rest)?;
-        return Ok(true);
-    }
-    if field::is(line, 0, word, b"whitespace") {
-        spaces::whitespace(to, line, rest)?;
-        return Ok(true);
-    }
-    Ok(false)
-}
-
-// A line on names and escapes: whether it was one.
-fn replay_name<W: Write>(to: &mut W, line: &[u8], word: usize, rest: usize) -> io::Result<bool> {
-    if field::is(line, 0, word, b"identifier") {
-        strings::identifier(to, line, rest)?;
-        return Ok(true);
-    }
-    if field::is(line, 0, word, b"keyword") {
-        strings::keyword(to, line, rest)?;
-        return Ok(true);
-    }
-    if field::is(line, 0, word, b"scalar") {
-        strings::scalar(to, line, rest)?;
-        return Ok(true);
-    }
-    if field::is(line, 0, word, b"escape") {
-        strings::escape(to, line, rest)?;
-        return Ok(true);
-    }
-    Ok(false)
-}
-
-// A line on the parts of strings: whether it was one.
-fn replay_string<W: Write>(to: &mut W, line: &[u8], word: usize, rest: usize) -> io::Result<bool> {
-    if field::is(line, 0, word, b"indent") {
-        strings::indent(to, line, rest)?;
-        return Ok(true);
-    }
-    if field::is(line, 0, word, b"parts") {
-        strings::parts(to, line, rest)?;
-        return Ok(true);
-    }
-    if field::is(line, 0, word, b"value") {
-        strings::value(to, line, rest)?;
-        return Ok(true);
-    }
-    Ok(false)
-}
-
-// A line on the tidy writer, handing back and the walker: whether it was one.
-fn replay_tidied<W: Write>(to: &mut W, line: &[u8], word: usize, rest: usize) -> io::Result<bool> {
-    if field::is(line, 0, word, b"tidy") {
-        tidied::tidy(to, line, rest)?;
-        return Ok(true);
-    }
-    if field::is(line, 0, word, b"hand") {
-        tidied::hand(to, line, rest)?;
-        return Ok(true);
-    }
-    if field::is(line, 0, word, b"walk") {
-        walks::walk(to, line, rest)?;
-        return Ok(true);
-    }
-    Ok(false)
-}
-
 // One line of the list, without its line end.
 fn replay<W: Write>(to: &mut W, line: &[u8]) -> io::Result<()> {
-    let word = field::end_of(line, 0);
-    let rest = field::after(line, word);
-    if !replay_text(to, line, word, rest)? {
-        if !replay_name(to, line, word, rest)? {
-            if !replay_string(to, line, word, rest)? {
-                if !replay_tidied(to, line, word, rest)? {
-                    to.write_all(line)?;
-                }
-            }
-        }
+    let mut fields = Fields::of(line);
+    match fields.word() {
+        b"utf8" => texts::utf8(to, fields)?,
+        b"span" => spans::span(to, fields)?,
+        b"lex" => lexes::lex(to, fields)?,
+        b"tally" => tallies::tallied(to, fields)?,
+        b"document" => documents::document(to, fields)?,
+        b"whitespace" => spaces::whitespace(to, fields)?,
+        b"identifier" => strings::identifier(to, fields)?,
+        b"keyword" => strings::keyword(to, fields)?,
+        b"scalar" => strings::scalar(to, fields)?,
+        b"escape" => strings::escape(to, fields)?,
+        b"indent" => strings::indent(to, fields)?,
+        b"parts" => strings::parts(to, fields)?,
+        b"value" => strings::value(to, fields)?,
+        b"tidy" => tidied::tidy(to, fields)?,
+        b"hand" => tidied::hand(to, fields)?,
+        b"walk" => walks::walk(to, fields)?,
+        _ => to.write_all(line)?,
     }
     to.write_all(b"\n")
 }
 
 // Every line.
 fn replay_all<W: Write>(to: &mut W, list: &[u8]) -> io::Result<()> {
-    let mut start = 0;
-    while start < list.len() {
-        let end = field::line_end(list, start);
-        replay(to, &list[start..end])?;
-        start = end + 1;
+    for line in list.split_inclusive(|b| *b == b'\n') {
+        replay(to, line.strip_suffix(b"\n").unwrap_or(line))?;
     }
     to.flush()
 }
 
-// Room for the whole list. Only the length is said, so that nothing computes with so many places.
-fn room() -> [u8; 786432]
-    ensures { 786432 ≡ length result }
+// So many places. Only the length is said, so that nothing computes with so many places. Kept: beside the one of `report`, on which this program doesn't stand.
+fn room<const PLACES: usize>() -> [u8; PLACES]
+    ensures { PLACES ≡ length result }
 {
-    [0u8; 786432]
+    [0; PLACES]
 }
 
 // Reads the list to its end, as much of it as there is room for.
-fn read_input<R: Read>(from: &mut R, buffer: &mut [u8]) -> io::Result<usize>
-    ensures { IfOk result (λ n. n ≤ length buffer.new) }
+// Kept: beside `read_text` of `report`, which is for texts: there a full room is a text that is too long, and here it is the list as far as it goes.
+fn read_input<R: Read>(from: &mut R, room: &mut [u8]) -> io::Result<usize>
+    ensures { IfOk result (λ n. n ≤ length room.new) }
 {
     let mut done: usize = 0;
-    while done < buffer.len() {
-        let more = from.read(&mut buffer[done..])?;
+    while done < room.len() {
+        let more = from.read(&mut room[done..])?;
         if more == 0 {
-            return Ok(done);
+            break;
         }
         done += more;
     }
@@ -153,7 +78,7 @@ fn read_input<R: Read>(from: &mut R, buffer: &mut [u8]) -> io::Result<usize>
 }
 
 fn main(rt: HostRuntime) -> io::Result<()> {
-    let mut buffer = room();
-    let n = read_input(&mut rt.stdin(), &mut buffer)?;
-    replay_all(&mut rt.stdout(), &buffer[..n])
+    let mut list: [u8; 786432] = room();
+    let n = read_input(&mut rt.stdin(), &mut list)?;
+    replay_all(&mut rt.stdout(), &list[..n])
 }

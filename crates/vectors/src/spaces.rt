@@ -1,27 +1,20 @@
 // Runs of whitespace, measured.
-use crate::{field, lists, texts};
+use crate::fields::Fields;
 use scan::Measured;
 use std::io;
 use std::io::Write;
 
 // Length, line ends and bytes looked at.
 fn print<W: Write>(to: &mut W, run: Measured) -> io::Result<()> {
-    lists::print_number(to, run.length as u64)?;
-    to.write_all(b" ")?;
-    lists::print_number(to, run.lines as u64)?;
-    to.write_all(b" ")?;
-    lists::print_number(to, run.looked as u64)
+    write!(to, "{} {} {}", run.length, run.lines, run.looked)
 }
 
 // `whitespace POSITION BYTES`: the run there, as a step measures it, and as it is measured behind a lexeme.
-pub(crate) fn whitespace<W: Write>(to: &mut W, line: &[u8], start: usize) -> io::Result<()> {
-    let mut bytes = [0u8; 256];
-    let at = field::number(line, start) as usize;
-    let n = texts::read_bytes(line, field::next(line, start), &mut bytes);
-    let text = &bytes[..n];
-    let run = scan::whitespace(text, at);
-    print(to, run)?;
+pub(crate) fn whitespace<W: Write>(to: &mut W, mut fields: Fields<'_>) -> io::Result<()> {
+    let mut room = [0; 256];
+    let at = fields.number();
+    let text = fields.bytes(&mut room);
+    print(to, scan::whitespace(text, at))?;
     to.write_all(b" ")?;
-    let behind = scan::whitespace_behind(text, at);
-    print(to, behind)
+    print(to, scan::whitespace_behind(text, at))
 }

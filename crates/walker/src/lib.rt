@@ -1,61 +1,70 @@
 // The walker: lexing step by step, with a stack in two lent arrays that the caller keeps.
 #![tactic(auto)]
 
-ghost use Rattle.std.specs.Prelude.{◌≡◌};
-ghost use Rattle.rules.specs.Lent.{arrays};
-ghost use Rattle.rules.specs.Walker.{kept_of, kept_bad};
+ghost use Rattle.std.specs.Prelude.{◌≡◌, Some, Err};
+ghost use Rattle.std.proofs.Math.Option.{some};
+ghost use Rattle.rules.specs.Walker.{kept_of, kept_bad, kept_refusal};
 ghost use Rattle.source.specs.Meaning.{refusal_meant};
-ghost use Rattle.lexer.specs.declared.StepAnswer.TheVariants.{Refused};
+ghost use Rattle.list.specs.Entries.{lent_meant, SameArrays};
 ghost use Rattle.lexer.specs.Stepping.{stepped_by, walker_at, Walks};
 ghost use Rattle.walker.specs.Meaning.{kept_meant};
 ghost use Rattle.walker.specs.Walkers.{Opens, Steps};
 
-use lexer::{StepAnswer, Stepped};
-use rules::refusal;
-use source::{Refusal, Span, Spanned};
-use utf8::Checked;
+use lexer::{Stepped, TokenAt};
+use list::ListMut;
+use rules::Reason;
+use source::{Refusal, Span};
 
-// What a walker keeps from its opening: nothing, that the text is too long (2), or where it is not UTF-8 (1).
-#[derive(Clone, Copy)]
+// What a walker keeps of a text that it cannot read: that it is too long (2), or where it is not UTF-8 (1).
+#[derive(Clone, Copy, Debug, PartialEq, Eq)]
 pub enum Kept {
-    Nothing,
     TooLong,
     NotUtf8(usize),
 }
 
+impl Kept {
+    // The refusal that the walker of a document gives at every step.
+    pub fn refusal(self, doc: u32) -> Refusal
+        ensures { kept_refusal doc (kept_meant (Some self)) ≡ some (refusal_meant result) }
+    {
+        match self {
+            Kept::TooLong => source::refuse(Reason::TooLong, source::start_of(doc)),
+            Kept::NotUtf8(bad) => bad_at(doc, bad),
+        }
+    }
+}
+
 // What a walker keeps that is opened with a text: 2, then 1.
-fn kept_of(text: &[u8]) -> Kept
+fn kept_of(text: &[u8]) -> Option<Kept>
     ensures { kept_meant result ≡ kept_of text.now }
 {
     if rules::LIMIT < text.len() {
-        return Kept::TooLong;
+        return Some(Kept::TooLong);
     }
-    let checked = utf8::check(text);
-    let Checked::BadAt(at) = checked else {
-        return Kept::Nothing;
-    };
-    Kept::NotUtf8(at)
+    match utf8::check(text) {
+        Ok(()) => None,
+        Err(error) => Some(Kept::NotUtf8(error.valid_up_to)),
+    }
 }
 
 // Refusal 1 at a position; 40 at 0-0 where no span can have it.
 pub fn bad_at(doc: u32, bad: usize) -> Refusal
     ensures { refusal_meant result ≡ kept_bad doc bad }
 {
-    let made = Span::new(doc, bad, bad);
-    let Spanned::Made(at) = made else {
-        return source::refuse(refusal::WRONG_FORM, source::start_of(doc));
-    };
-    source::refuse(refusal::NOT_UTF8, at)
+    match Span::new(doc, bad, bad) {
+        Ok(at) => source::refuse(Reason::NotUtf8, at),
+        Err(_) => source::refuse(Reason::WrongForm, source::start_of(doc)),
+    }
 }
 
 // A walker that keeps a refusal gives it, and stays.
 fn gives(kept: Refusal, position: usize, depth: usize) -> Stepped
-    ensures { result ≡ stepped_by (Refused kept) position depth }
+    ensures { result ≡ stepped_by (Err kept) position depth }
 {
     Stepped {
-        answer: StepAnswer::Refused(kept),
-        position: position,
-        depth: depth,
+        answer: Err(kept),
+        position,
+        depth,
     }
 }
 
@@ -65,19 +74,15 @@ fn step_at(
     text: &[u8],
     position: usize,
     depth: usize,
-    kept: Kept,
-    skinds: &mut [u8],
-    swords: &mut [u64],
+    kept: Option<Kept>,
+    stack: &mut ListMut<'_>,
 ) -> Stepped
-    ensures { Walks text.now (walker_at doc position depth (kept_meant kept)) (arrays skinds.old swords.old) result (arrays skinds.new swords.new) }
+    ensures walks { Walks text.now (walker_at doc position depth (kept_meant kept)) (lent_meant stack.old) result (lent_meant stack.new) }
+    ensures same { SameArrays stack.old stack.new }
 {
     match kept {
-        Kept::TooLong => {
-            let long = source::refuse(refusal::TOO_LONG, source::start_of(doc));
-            gives(long, position, depth)
-        }
-        Kept::NotUtf8(bad) => gives(bad_at(doc, bad), position, depth),
-        Kept::Nothing => lexer::step_at(doc, text, position, depth, skinds, swords),
+        Some(kept) => gives(kept.refusal(doc), position, depth),
+        None => lexer::step_at(doc, text, position, depth, stack),
     }
 }
 
@@ -88,51 +93,50 @@ pub struct Walker<'a> {
     pub doc: u32,
     pub position: usize,
     pub depth: usize,
-    pub kept: Kept,
+    pub kept: Option<Kept>,
 }
 
 // A step's answer, and the walker after it.
 #[derive(Clone, Copy)]
 pub struct Walked<'a> {
-    pub answer: StepAnswer,
+    pub answer: Result<Option<TokenAt>, Refusal>,
     pub next: Walker<'a>,
 }
 
 // A walker at a text's start, which keeps a refusal 2 or 1.
+#[tactic(auto, unfolding(rules::specs::Walker::opening))]
 pub fn open<'a>(text: &'a [u8], doc: u32) -> Walker<'a>
     ensures { Opens text.entry doc result }
 {
-    let kept = kept_of(text);
     Walker {
         text,
         doc,
         position: 0,
         depth: 0,
-        kept,
+        kept: kept_of(text),
     }
 }
 
 // What a walker keeps that is opened with a text, for whoever keeps its place in numbers.
-pub fn open_from(doc: u32, text: &[u8]) -> Kept
+#[tactic(auto, unfolding(rules::specs::Walker::opening))]
+pub fn open_from(doc: u32, text: &[u8]) -> Option<Kept>
     ensures { kept_meant result ≡ kept_of text.now }
 {
-    let w = open(text, doc);
-    w.kept
+    open(text, doc).kept
 }
 
 // One step, given a stack.
-pub fn step<'a>(w: Walker<'a>, skinds: &mut [u8], swords: &mut [u64]) -> Walked<'a>
-    ensures { Steps w.entry (arrays skinds.old swords.old) result (arrays skinds.new swords.new) }
+pub fn step<'a>(w: Walker<'a>, stack: &mut ListMut<'_>) -> Walked<'a>
+    ensures steps { Steps w.entry (lent_meant stack.old) result (lent_meant stack.new) }
+    ensures same { SameArrays stack.old stack.new }
 {
-    let s = step_at(w.doc, w.text, w.position, w.depth, w.kept, skinds, swords);
+    let s = step_at(w.doc, w.text, w.position, w.depth, w.kept, stack);
     Walked {
         answer: s.answer,
         next: Walker {
-            text: w.text,
-            doc: w.doc,
             position: s.position,
             depth: s.depth,
-            kept: w.kept,
+            ..w
         },
     }
 }
@@ -143,23 +147,20 @@ pub fn step_from(
     text: &[u8],
     position: usize,
     depth: usize,
-    kept: Kept,
-    skinds: &mut [u8],
-    swords: &mut [u64],
+    kept: Option<Kept>,
+    stack: &mut ListMut<'_>,
 ) -> Stepped
-    ensures { Walks text.now (walker_at doc position depth (kept_meant kept)) (arrays skinds.old swords.old) result (arrays skinds.new swords.new) }
+    ensures walks { Walks text.now (walker_at doc position depth (kept_meant kept)) (lent_meant stack.old) result (lent_meant stack.new) }
+    ensures same { SameArrays stack.old stack.new }
 {
-    let r = step(
-        Walker {
-            text,
-            doc,
-            position,
-            depth,
-            kept,
-        },
-        skinds,
-        swords,
-    );
+    let w = Walker {
+        text,
+        doc,
+        position,
+        depth,
+        kept,
+    };
+    let r = step(w, stack);
     Stepped {
         answer: r.answer,
         position: r.next.position,

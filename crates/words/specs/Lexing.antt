@@ -1,13 +1,15 @@
 -- The UTF-8 check, results of lexing and the tally as words for C.
-use Rattle.std.specs.Prelude.{ℕ, ◌-◌, ◌^◌}
+use Rattle.std.specs.Prelude.{ℕ, ◌-◌, ◌^◌, ◌≡◌}
 use Rattle.std.proofs.Math.Option.{Option, none, some}
 use Rattle.rules.specs.Lexing.{Lexed as LexedRule}
 use Rattle.rules.specs.Tally.{Tally}
-use Rattle.lexer.specs.declared.Lexed.{Lexed}
+use Rattle.lexer.specs.Results.{lexed_meant}
+use Rattle.tidy.specs.declared.Tidied.{Tidied}
+use Rattle.tally.specs.Meaning.{tally_meant}
+use Rattle.tally.specs.declared.Counted.{Counted}
 use Rattle.words.specs.Refusals.{note_in, given_or_refused, canonical_refusal, note_if_set}
-use Rattle.words.specs.declared.refusals.RefusalWords.{RefusalWords}
-use Rattle.words.specs.declared.refusals.NoteWords.{NoteWords}
 use Rattle.words.specs.declared.lexing.LexedWords.{LexedWords}
+use Rattle.words.specs.declared.lexing.TidiedWords.{TidiedWords}
 use Rattle.words.specs.declared.lexing.CountedWords.{CountedWords}
 
 -- an offset, or all ones where there is none
@@ -38,20 +40,21 @@ canonical_lexed w = record {
   deepest = w.deepest;
 }
 
--- a refusal and its note with the counts of a result
-abbrev pub lexed_with : RefusalWords → NoteWords → Lexed → LexedWords
-lexed_with refusal note r = record {
-  refusal = refusal;
-  note = note;
-  lexemes = r.lexemes;
-  steps = r.steps;
-  kept = r.kept;
-  dropped = r.dropped;
-  deepest = r.deepest;
-}
-
 abbrev pub tally_by : (accepted refused steps : ℕ) → Tally
 tally_by a r n = record { accepted = a; refused = r; steps = n }
 
 abbrev pub tally_in : CountedWords → Tally
 tally_in w = tally_by w.accepted w.refused w.steps
+
+-- words in that form with this result
+pub record LexedAs (r : LexedRule) (w : LexedWords) : Type 0 where
+  pub meaning : lexed_in w ≡ r
+  pub canonical : w ≡ canonical_lexed w
+
+pub record TidiedAs (r : Tidied) (w : TidiedWords) : Type 0 where
+  pub lexed : LexedAs (lexed_meant r.lexed) w.lexed
+  pub written : w.written ≡ r.written
+
+pub record CountedAs (r : Counted) (w : CountedWords) : Type 0 where
+  pub lexed : LexedAs (lexed_meant r.lexed) w.lexed
+  pub tally : tally_in w ≡ tally_meant r.tally

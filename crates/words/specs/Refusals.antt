@@ -1,9 +1,11 @@
 -- A refusal and its note as words for C: what they mean, and their canonical form.
-use Rattle.std.specs.Prelude.{ℕ, cond, eqb}
+use Rattle.std.specs.Prelude.{ℕ, ◌≡◌, cond, eqb, Option as CodeOption, Some, None}
 use Rattle.std.proofs.Math.Option.{Option, none, some}
+use Rattle.rules.specs.Reasons.{number_of}
 use Rattle.rules.specs.Spans.{Span, span_of}
 use Rattle.rules.specs.Answers.{Answer, given, refused}
 use Rattle.source.specs.declared.Span.{Span as CodeSpan}
+use Rattle.source.specs.declared.Refusal.{Refusal}
 use Rattle.words.specs.declared.refusals.RefusalWords.{RefusalWords}
 use Rattle.words.specs.declared.refusals.NoteWords.{NoteWords}
 
@@ -46,12 +48,18 @@ note_if_set flag w = record {
   high = if_set flag (canonical_note w).high;
 }
 
--- the words of no note, of no refusal, and of a refusal
-abbrev pub no_note_said : NoteWords
-no_note_said = record { noted = 0; low = 0; high = 0 }
-
+-- the words of no refusal, of a refusal, and of either
 abbrev pub no_refusal_said : RefusalWords
 no_refusal_said = record { refused = 0; number = 0; low = 0; high = 0 }
 
 abbrev pub refusal_said : (number : ℕ) → CodeSpan → RefusalWords
 refusal_said number at = record { refused = 1; number = number; low = at.low; high = at.high }
+
+abbrev pub told_said : CodeOption Refusal → RefusalWords
+told_said None = no_refusal_said
+told_said (Some r) = refusal_said (number_of r.reason) r.at
+
+-- words in that form with this note
+pub record NoteAs (note : Option Span) (w : NoteWords) : Type 0 where
+  pub meaning : note_in w ≡ note
+  pub canonical : w ≡ canonical_note w

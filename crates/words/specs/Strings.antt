@@ -59,7 +59,12 @@ canonical_valued w = record {
   parts = w.parts;
 }
 
--- words in that form with this answer and this number of parts
+-- words in that form with this answer
+pub record AnswerAs (answer : Answer ℕ) (w : AnswerWords) : Type 0 where
+  pub answered : answer_in w ≡ answer
+  pub canonical : w ≡ canonical_answer w
+
+-- and with this number of parts
 pub record PartedAs (answer : Answer ℕ) (parts : ℕ) (w : PartedWords) : Type 0 where
   pub answered : closer_in w ≡ answer
   pub counted : w.parts ≡ parts

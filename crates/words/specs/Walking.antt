@@ -1,5 +1,5 @@
 -- What a walker keeps and its steps as words for C.
-use Rattle.std.specs.Prelude.{ℕ, min, ◌≡◌, cond, ◌&&◌, List, leb, ltb, eqb, length}
+use Rattle.std.specs.Prelude.{ℕ, min, ◌≡◌, cond, ◌&&◌, List, leb, ltb, eqb, length, Option as CodeOption, Result, Ok, Err}
 use Rattle.std.proofs.Math.Option.{Option, none, some}
 use Rattle.rules.specs.Refusals.{NotUtf8, TooLong, WrongForm}
 use Rattle.rules.specs.Spans.{span, low, high, span_of, limit}
@@ -8,11 +8,11 @@ use Rattle.rules.specs.Lent.{Lexeme, lexeme, Arrays}
 use Rattle.rules.specs.Walker.{Kept, nothing, too_long, not_utf8, Walked, stays, walking}
 use Rattle.lexer.specs.Stepping.{walker_at}
 use Rattle.walker.specs.Meaning.{kept_meant}
+use Rattle.walker.specs.declared.Kept.{Kept as CodeKept}
 use Rattle.words.specs.Refusals.{note_in, note_if_set, no_refusal_said}
 use Rattle.words.specs.declared.refusals.RefusalWords.{RefusalWords}
 use Rattle.words.specs.declared.walking.SteppedWords.{SteppedWords}
-use Rattle.words.specs.declared.walking.Told.{Told}
-use Rattle.words.specs.declared.walking.Told.TheVariants.{Kept as KeptTold, Wrong}
+use Rattle.words.specs.declared.walking.NotKept.{NotKept}
 
 -- a refusal that is kept, if there is one
 abbrev pub kept_said : Option Refusal → RefusalWords
@@ -35,9 +35,9 @@ told_by doc kept number l h =
     cond (eqb kept 0 && eqb number 0 && eqb l 0 && eqb h 0) (some nothing) (
     cond (eqb kept 1 && eqb (span_of l h).doc doc && eqb (span_of l h).start (span_of l h).end) (told_at number (span_of l h).start) none)
 
-abbrev pub told_meant : Told → Option Kept
-told_meant (KeptTold k) = some (kept_meant k)
-told_meant Wrong = none
+abbrev pub told_meant : Result (CodeOption CodeKept) NotKept → Option Kept
+told_meant (Ok k) = some (kept_meant k)
+told_meant (Err e) = none
 
 -- a step by what words tell; where they tell nothing, 2 and then 40, and nothing changes
 abbrev pub walking_told : List ℕ → (doc position depth : ℕ) → Option Kept → (stack : Arrays) → Walked

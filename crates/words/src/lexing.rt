@@ -1,21 +1,18 @@
 // The UTF-8 check, lexing, the tidy writer and the tally.
 ghost use Rattle.std.specs.Prelude.{◌≡◌};
-ghost use Rattle.lexer.specs.Results.{lexed_meant};
-ghost use Rattle.tally.specs.Meaning.{tally_meant};
 ghost use Rattle.utf8.specs.Meaning.{checked_meant};
-ghost use Rattle.words.specs.Lexing.{offset_or_all, lexed_in, canonical_lexed, lexed_with, tally_in};
+ghost use Rattle.lexer.specs.Results.{lexed_meant};
+ghost use Rattle.words.specs.Lexing.{offset_or_all, LexedAs, TidiedAs, CountedAs};
 
-use crate::refusals;
 use crate::refusals::{NoteWords, RefusalWords};
 use lexer::Lexed;
-use source::Verdict;
 use tally::Counted;
 use tidy::Tidied;
-use utf8::Checked;
+use utf8::Utf8Error;
 
 // The result of lexing: the refusal, its note, and the counts.
 #[repr(C)]
-#[derive(Clone, Copy)]
+#[derive(Clone, Copy, Debug, PartialEq, Eq)]
 pub struct LexedWords {
     pub refusal: RefusalWords,
     pub note: NoteWords,
@@ -28,7 +25,7 @@ pub struct LexedWords {
 
 // The result of tidying: that of lexing or of the writing after it, and the bytes written.
 #[repr(C)]
-#[derive(Clone, Copy)]
+#[derive(Clone, Copy, Debug, PartialEq, Eq)]
 pub struct TidiedWords {
     pub lexed: LexedWords,
     pub written: u64,
@@ -36,7 +33,7 @@ pub struct TidiedWords {
 
 // The result of a counted lexing call, and the tally after it.
 #[repr(C)]
-#[derive(Clone, Copy)]
+#[derive(Clone, Copy, Debug, PartialEq, Eq)]
 pub struct CountedWords {
     pub lexed: LexedWords,
     pub accepted: u64,
@@ -45,68 +42,52 @@ pub struct CountedWords {
 }
 
 // Where the first bad sequence begins, or 2^64 − 1 where the text is UTF-8.
-pub fn offset(checked: Checked) -> u64
+pub fn offset(checked: Result<(), Utf8Error>) -> u64
     ensures { result ≡ offset_or_all (checked_meant checked) }
 {
     match checked {
-        Checked::Valid => 0xffff_ffff_ffff_ffff,
-        Checked::BadAt(at) => at as u64,
+        Ok(()) => u64::MAX,
+        Err(error) => error.valid_up_to as u64,
     }
 }
 
-fn with_counts(refusal: RefusalWords, note: NoteWords, r: Lexed) -> LexedWords
-    ensures { result ≡ lexed_with refusal note r }
-{
-    LexedWords {
-        refusal: refusal,
-        note: note,
-        lexemes: r.lexemes as u64,
-        steps: r.steps as u64,
-        kept: r.kept as u64,
-        dropped: r.dropped as u64,
-        deepest: r.deepest as u64,
-    }
-}
+impl From<Lexed> for LexedWords {
+    ghost from_gives = { λ r words. LexedAs (lexed_meant r) words };
 
-pub fn lexed(r: Lexed) -> LexedWords
-    ensures meaning { lexed_in result ≡ lexed_meant r }
-    ensures canonical { result ≡ canonical_lexed result }
-{
-    let answer = r.answer;
-    match answer {
-        Verdict::Accepted => with_counts(refusals::no_refusal(), refusals::no_note(), r),
-        Verdict::Refused(refusal) => {
-            let note = refusal.note;
-            with_counts(refusals::refusal(refusal), refusals::note(note), r)
+    fn from(r: Lexed) -> LexedWords {
+        let refusal = r.answer.err();
+        LexedWords {
+            refusal: RefusalWords::from(refusal),
+            note: NoteWords::from(refusal.and_then(|refusal| refusal.note)),
+            lexemes: r.lexemes as u64,
+            steps: r.steps as u64,
+            kept: r.kept as u64,
+            dropped: r.dropped as u64,
+            deepest: r.deepest as u64,
         }
     }
 }
 
-pub fn tidied(r: Tidied) -> TidiedWords
-    ensures lexed { lexed_in result.lexed ≡ lexed_meant r.lexed }
-    ensures written { result.written ≡ r.written }
-    ensures canonical { result.lexed ≡ canonical_lexed result.lexed }
-{
-    let of_lexing = r.lexed;
-    let w = lexed(of_lexing);
-    TidiedWords {
-        lexed: w,
-        written: r.written as u64,
+impl From<Tidied> for TidiedWords {
+    ghost from_gives = { λ r words. TidiedAs r words };
+
+    fn from(r: Tidied) -> TidiedWords {
+        TidiedWords {
+            lexed: LexedWords::from(r.lexed),
+            written: r.written as u64,
+        }
     }
 }
 
-pub fn counted(r: Counted) -> CountedWords
-    ensures lexed { lexed_in result.lexed ≡ lexed_meant r.lexed }
-    ensures tally { tally_in result ≡ tally_meant r.tally }
-    ensures canonical { result.lexed ≡ canonical_lexed result.lexed }
-{
-    let of_lexing = r.lexed;
-    let after = r.tally;
-    let w = lexed(of_lexing);
-    CountedWords {
-        lexed: w,
-        accepted: after.accepted,
-        refused: after.refused,
-        steps: after.steps,
+impl From<Counted> for CountedWords {
+    ghost from_gives = { λ r words. CountedAs r words };
+
+    fn from(r: Counted) -> CountedWords {
+        CountedWords {
+            lexed: LexedWords::from(r.lexed),
+            accepted: r.tally.accepted,
+            refused: r.tally.refused,
+            steps: r.tally.steps,
+        }
     }
 }

@@ -1,13 +1,13 @@
 // A refusal and its note in words: the one place where they are made.
 ghost use Rattle.std.specs.Prelude.{◌≡◌};
 ghost use Rattle.source.specs.Meaning.{note_meant};
-ghost use Rattle.words.specs.Refusals.{no_refusal_said, refusal_said, no_note_said, note_in, canonical_note};
+ghost use Rattle.words.specs.Refusals.{told_said, NoteAs};
 
-use source::{Note, Refusal};
+use source::{Refusal, Span};
 
 // Whether there is a refusal, its number and its span.
 #[repr(C)]
-#[derive(Clone, Copy)]
+#[derive(Clone, Copy, Debug, Default, PartialEq, Eq)]
 pub struct RefusalWords {
     pub refused: u64,
     pub number: u64,
@@ -17,56 +17,40 @@ pub struct RefusalWords {
 
 // Whether there is a note, and its span.
 #[repr(C)]
-#[derive(Clone, Copy)]
+#[derive(Clone, Copy, Debug, Default, PartialEq, Eq)]
 pub struct NoteWords {
     pub noted: u64,
     pub low: u64,
     pub high: u64,
 }
 
-pub(crate) fn no_refusal() -> RefusalWords
-    ensures { result ≡ no_refusal_said }
-{
-    RefusalWords {
-        refused: 0,
-        number: 0,
-        low: 0,
-        high: 0,
+impl From<Option<Refusal>> for RefusalWords {
+    ghost from_gives = { λ told words. words ≡ told_said told };
+
+    fn from(told: Option<Refusal>) -> RefusalWords {
+        let Some(refusal) = told else {
+            return RefusalWords::default();
+        };
+        RefusalWords {
+            refused: 1,
+            number: u64::from(u8::from(refusal.reason)),
+            low: refusal.at.low,
+            high: refusal.at.high,
+        }
     }
 }
 
-pub(crate) fn refusal(told: Refusal) -> RefusalWords
-    ensures { result ≡ refusal_said told.number told.at }
-{
-    let at = told.at;
-    RefusalWords {
-        refused: 1,
-        number: told.number as u64,
-        low: at.low,
-        high: at.high,
-    }
-}
+impl From<Option<Span>> for NoteWords {
+    ghost from_gives = { λ note words. NoteAs (note_meant note) words };
 
-pub(crate) fn no_note() -> NoteWords
-    ensures { result ≡ no_note_said }
-{
-    NoteWords {
-        noted: 0,
-        low: 0,
-        high: 0,
-    }
-}
-
-pub(crate) fn note(told: Note) -> NoteWords
-    ensures meaning { note_in result ≡ note_meant told }
-    ensures canonical { result ≡ canonical_note result }
-{
-    let Note::At(span) = told else {
-        return no_note();
-    };
-    NoteWords {
-        noted: 1,
-        low: span.low,
-        high: span.high,
+    fn from(note: Option<Span>) -> NoteWords {
+        let Some(span) = note else {
+            return NoteWords::default();
+        };
+        NoteWords {
+            noted: 1,
+            low: span.low,
+            high: span.high,
+        }
     }
 }

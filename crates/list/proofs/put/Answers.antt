@@ -10,21 +10,21 @@ use Rattle.rules.specs.Lent.{places_of}
 use Rattle.rules.proofs.Spans.{low-of-span, high-of-span}
 use Rattle.list.proofs.put.Goals as goal
 
-pub returns-then-n-place : goal.returns-then-n-place
-returns-then-n-place c =
+pub returns-then-places-place : goal.returns-then-places-place
+returns-then-places-place c =
     let a = c.args in
     let n = places_of a.kinds.now a.words.now in
-    let past : ltb a.place n ≡ false = le-ltb a.place n (omega (arith, c.if-n-place.true, c.places-n.ensures)) in
+    let past : ltb a.place n ≡ false = le-ltb a.place n (omega (arith, c.if-places-place.true, c.places.ensures.places)) in
     rw past
 
 pub bounds-words-place-2 : goal.bounds-words-place-2
-bounds-words-place-2 c = simp length-set (omega (arith, c.if-n-place.false, c.places-n.ensures))
+bounds-words-place-2 c = simp length-set (omega (arith, c.if-places-place.false, c.places.ensures.places))
 
 pub returns : goal.returns
 returns c =
     let a = c.args in
     let n = places_of a.kinds.now a.words.now in
-    let there : ltb a.place n ≡ true = lt-ltb a.place n (omega (arith, c.if-n-place.false, c.places-n.ensures)) in
+    let there : ltb a.place n ≡ true = lt-ltb a.place n (omega (arith, c.if-places-place.false, c.places.ensures.places)) in
     let l = a.entry.at.low in
     let h = a.entry.at.high in
     let word : l < 2 ^ 64 = omega arith in

@@ -1,12 +1,6 @@
 -- The scan has come to here; each turn is one more byte of it.
-use Prim.Native.Nat.{◌-◌}
-use lib.ListN.{length}
-use Rattle.scan.specs.Classes.{passes}
 use Rattle.scan.specs.Reach.{Reach}
 use Rattle.scan.proofs.run_end.Given as goal
 
 abbrev pub invariant-loop-i : goal.invariant-loop-i
-invariant-loop-i l = Reach (passes l.class) l.text l.at l.i
-
-abbrev pub decreases-loop-i : goal.decreases-loop-i
-decreases-loop-i l = length l.text - l.i
+invariant-loop-i g l = Reach (g.C.ByteClass.passes l.class) l.text l.at l.i

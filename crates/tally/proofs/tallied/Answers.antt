@@ -1,13 +1,13 @@
--- The rule's case is the answer's; each count is the one before or the sum that `plus` ensures.
+-- The rule's case is the answer's; each count is the one before or the sum that stops at its top.
 use native.Mathlib.Omega.{arith}
 use Rattle.rules.specs.Tally.{tallied}
 use Rattle.tally.proofs.Counts.{same-counts}
 use Rattle.tally.proofs.tallied.Goals as goal
 
-pub returns-in-Refused : goal.returns-in-Refused
+pub returns-in-Ok : goal.returns-in-Ok
 unfolding tallied
-returns-in-Refused c = rw c.in-Refused.is (same-counts (omega arith) (omega (arith, c.plus.ensures)) (omega (arith, c.plus-all.ensures)))
+returns-in-Ok c = rw c.in-Ok.is (same-counts (omega (arith, c.saturating_add.ensures)) (omega arith) (omega (arith, c.saturating_add-steps.ensures)))
 
-pub returns : goal.returns
+pub returns-in-Err : goal.returns-in-Err
 unfolding tallied
-returns c = rw c.in_default.is (same-counts (omega (arith, c.plus-2.ensures)) (omega arith) (omega (arith, c.plus-all.ensures)))
+returns-in-Err c = rw c.in-Err.is (same-counts (omega arith) (omega (arith, c.saturating_add-in-Err.ensures)) (omega (arith, c.saturating_add-steps.ensures)))

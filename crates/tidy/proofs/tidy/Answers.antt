@@ -1,21 +1,23 @@
 -- A refused lexing is the whole result; after an accepted one, what was listed is read back and written.
-use mathlib.Core.Path.{◌≡◌, refl}
+use mathlib.Core.Path.{◌≡◌, refl, subst}
+use lib.ListN.{take}
+use Rattle.rules.specs.Lent.{Arrays, contents}
 use Rattle.rules.specs.Answers.{Refusal, accepted, refused}
 use Rattle.source.specs.Meaning.{refusal_meant, verdict_meant}
 use Rattle.lexer.specs.Results.{lexed_meant}
+use Rattle.tidy.specs.Pieces.{WritesPieces}
 use Rattle.tidy.proofs.Whole.{tidies-refused, tidies-written}
 use Rattle.tidy.proofs.tidy.Goals as goal
 
-pub returns-in_default : goal.returns-in_default
-returns-in_default c =
-    let refusal = c.in_default in
-    let why : Refusal = refusal_meant refusal.field-0 in
-    let verdict : (lexed_meant c.lex-lexed.result).verdict ≡ refused why = rw refusal.is refl in
-    tidies-refused c.args.output.now why c.lex-lexed.ensures verdict
+pub returns-in_default-clause-tidies : goal.returns-in_default-clause-tidies
+returns-in_default-clause-tidies c =
+    let why : Refusal = refusal_meant c.in_default.field-0 in
+    let verdict : (lexed_meant c.lex-lexed.result).verdict ≡ refused why = rw c.in_default.is refl in
+    tidies-refused c.args.output.now why c.lex-lexed.ensures.lexes verdict
 
-pub returns : goal.returns
-returns c =
+pub returns-clause-tidies : goal.returns-clause-tidies
+returns-clause-tidies c =
     let lex = c.lex-lexed in
     let writing = c.write_lexemes-wrote in
-    let verdict : (lexed_meant lex.result).verdict ≡ accepted = rw c.in-Accepted.is refl in
-    rw c.answered-result.ensures (tidies-written (verdict_meant writing.result.answer) writing.result.bytes lex.ensures verdict writing.ensures)
+    let verdict : (lexed_meant lex.result).verdict ≡ accepted = rw c.in-Ok.is refl in
+    tidies-written (verdict_meant writing.result.answer) writing.result.bytes lex.ensures.lexes verdict (subst (λ (a : Arrays). WritesPieces c.args.text.now (take lex.result.lexemes (contents a)) c.args.output.now (verdict_meant writing.result.answer) writing.result.bytes writing.new.output) c.list.ensures writing.ensures)

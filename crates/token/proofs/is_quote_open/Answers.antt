@@ -1,19 +1,18 @@
--- The code is that of the state's opener (`opener-code`), or no opener's and so no quote's.
+-- The code is that of the state's opener (`opener_code`), or no opener's.
 use mathlib.Core.Path.{sym, ap, ◌∙◌}
 use Rattle.token.specs.Codes.{state_meant}
-use Rattle.token.proofs.Openers.{opener-code, no-opener, no-quote}
+use Rattle.token.proofs.Openers.{opener_code, no_opener, no_quote}
 use Rattle.token.proofs.is_quote_open.Goals as goal
 
-pub returns-in_default : goal.returns-in_default
+pub returns-in-Some : goal.returns-in-Some
 unfolding state_meant
-returns-in_default c =
-    let k = c.args.kind in
-    let none = no-opener k (ap state_meant (sym c.in_default.is) ∙ c.state_of-opened.ensures) in
-    rw (no-quote k none)
-
-pub returns : goal.returns
-unfolding state_meant
-returns c =
-    let k = c.args.kind in
-    let same = opener-code k _ (ap state_meant (sym c.in-State.is) ∙ c.state_of-opened.ensures) in
+returns-in-Some c =
+    let same = opener_code c.args.kind _ (ap state_meant (sym c.in-Some.is) ∙ c.state_of.ensures) in
     c.is_string.ensures ∙ rw same
+
+pub returns-in-None : goal.returns-in-None
+unfolding state_meant
+returns-in-None c =
+    let k = c.args.kind in
+    let none = no_opener k (ap state_meant (sym c.in-None.is) ∙ c.state_of.ensures) in
+    rw (no_quote k none)

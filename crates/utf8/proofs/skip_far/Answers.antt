@@ -1,6 +1,8 @@
--- `skip_far` passes over ASCII bytes: what its two calls ensure, joined.
-use Rattle.utf8.proofs.Ahead.{join}
+-- `skip_far` passes over ASCII bytes: the block that it tests and what its two calls ensure, joined.
+use native.Mathlib.Omega.{arith}
+use Rattle.utf8.proofs.Ahead.{join, over_part}
 use Rattle.utf8.proofs.skip_far.Goals as goal
 
 pub returns : goal.returns
-returns c = join c.skip_blocks-a.ensures c.skip_blocks.ensures
+returns c =
+    join (join (over_part _ 32 (omega arith) (omega arith) (c.is_ascii.ensures c.if-not-is_ascii.false)) c.skip_blocks.ensures) c.skip_blocks-2.ensures

@@ -3,7 +3,7 @@ use Rattle.std.specs.Prelude.{◌≤◌, ◌-◌, length}
 use Rattle.vectors.proofs.read_input.Given as goal
 
 abbrev pub invariant-loop-done : goal.invariant-loop-done
-invariant-loop-done g l = l.done ≤ length l.buffer
+invariant-loop-done g l = l.done ≤ length l.room
 
 abbrev pub decreases-loop-done : goal.decreases-loop-done
-decreases-loop-done g l = length l.buffer - l.done
+decreases-loop-done g l = length l.room - l.done

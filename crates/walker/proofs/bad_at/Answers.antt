@@ -7,8 +7,8 @@ use Rattle.source.specs.Meaning.{spanned_meant}
 use Rattle.walker.proofs.Keeping.{bad-made, bad-refused}
 use Rattle.walker.proofs.bad_at.Goals as goal
 
-pub returns-in_default : goal.returns-in_default
-returns-in_default c = bad-refused c.args.doc c.args.bad _ (sym (ap spanned_meant c.in_default.is) ∙ c.new-made.ensures) (c.refuse.ensures ∙ ap (λ (s : Span). refusal WrongForm s) c.before.start_of.ensures)
+pub returns-in-Ok : goal.returns-in-Ok
+returns-in-Ok c = bad-made c.args.doc c.args.bad _ _ (sym (ap spanned_meant c.in-Ok.is) ∙ c.new.ensures) c.refuse.ensures
 
-pub returns : goal.returns
-returns c = bad-made c.args.doc c.args.bad _ _ (sym (ap spanned_meant c.in-Made.is) ∙ c.new-made.ensures) c.refuse-2.ensures
+pub returns-in-Err : goal.returns-in-Err
+returns-in-Err c = bad-refused c.args.doc c.args.bad _ _ (sym (ap spanned_meant c.in-Err.is) ∙ c.new.ensures) (c.refuse-in-Err.ensures ∙ ap (λ (s : Span). refusal WrongForm s) c.start_of.ensures)

@@ -1,35 +1,22 @@
--- The opener is refused, or the parts are those that the search from the next place on finds (`lists-searched`).
+-- The list has ended, the opener is refused, or the parts are those that the search from the next place on finds.
 use native.Mathlib.Omega.{arith}
-use native.Mathlib.Numerals.{add-one}
-use mathlib.Core.Path.{sym, ap, ◌∙◌}
-use lib.ListN.{length-take}
-use Rattle.rules.specs.Lent.{lexemes_in, arrays}
-use Rattle.rules.proofs.Listed.{places-length}
-use Rattle.cst.specs.Search.{effect_meant}
-use Rattle.cst.proofs.Standing.{opener-in, lists-past, lists-stopped, lists-searched}
+use Rattle.rules.specs.Lent.{contents}
+use Rattle.list.specs.Entries.{list_meant}
+use Rattle.list.proofs.Entries.{from_place}
+use Rattle.cst.proofs.Standing.{lists-past, lists-stopped, lists-searched}
 use Rattle.cst.proofs.search.parts.Goals as goal
 
-pub returns-then-end-place : goal.returns-then-end-place
-returns-then-end-place c = rw (c.refuse.ensures, c.nowhere.ensures) (lists-past _ _ _ _ (omega (arith, c.if-end-place.true, c.end-end.ensures)))
+pub returns-then-end-place-clause-lists : goal.returns-then-end-place-clause-lists
+returns-then-end-place-clause-lists c = rw (c.refuse.ensures, c.nowhere.ensures) (lists-past _ _ _ _ (omega (arith, c.if-end-place.true, c.end.ensures)))
 
-pub returns-in_default : goal.returns-in_default
-returns-in_default c =
+pub returns-in-Err-clause-lists : goal.returns-in-Err-clause-lists
+returns-in-Err-clause-lists c =
     let a = c.args in
-    let here = opener-in (arrays a.kinds.now a.words.now) a.count a.place (omega (arith, c.if-end-place.false, c.end-end.ensures)) _ c.get-opener.ensures in
-    let does = sym c.opener_effect-effect.ensures ∙ ap effect_meant c.in_default.is in
-    rw (c.stopped.ensures, c.in_default.is) (lists-stopped _ _ _ _ _ here c.in_default.field-0 does)
+    let here = from_place a.count (contents (list_meant a.list)) a.place _ (omega (arith, c.if-end-place.false, c.end.ensures)) c.get.ensures in
+    lists-stopped _ _ _ _ _ here _ c.in-Err.ensures
 
-pub search-requires : goal.search-requires
-search-requires c =
+pub returns-in-Ok-clause-lists : goal.returns-in-Ok-clause-lists
+returns-in-Ok-clause-lists c =
     let a = c.args in
-    record {
-      order = omega (arith, c.if-end-place.false);
-      inside = omega (arith, c.end-end.ensures, length-take a.count (lexemes_in a.kinds.now a.words.now), places-length a.kinds.now a.words.now);
-    }
-
-pub returns : goal.returns
-returns c =
-    let a = c.args in
-    let here = opener-in (arrays a.kinds.now a.words.now) a.count a.place (omega (arith, c.if-end-place.false, c.end-end.ensures)) _ c.get-opener.ensures in
-    let does = sym c.opener_effect-effect.ensures ∙ ap effect_meant c.in-Goes.is in
-    lists-searched _ _ _ _ _ _ here c.in-Goes.field-0 does _ _ (rw (add-one, c.end-end.ensures) at c.search.ensures)
+    let here = from_place a.count (contents (list_meant a.list)) a.place _ (omega (arith, c.if-end-place.false, c.end.ensures)) c.get.ensures in
+    lists-searched _ _ _ _ _ _ here c.in-Ok.ensures _ _ c.search.ensures.searched

@@ -1,59 +1,62 @@
+-- What the lexeme at this place does takes the search on to the next place, or out of the loop with its answer.
 use native.Mathlib.Omega.{arith}
-use native.Mathlib.Numerals.{add-one}
-use mathlib.Core.Path.{sym, ap, ◌∙◌}
-use Rattle.rules.specs.Lent.{arrays}
-use Rattle.cst.specs.Search.{effect_meant}
-use Rattle.cst.proofs.Standing.{stands-start, as_long, stands_on, stands-ended, stands-stopped, next-in, end-length}
+use mathlib.Core.Path.{◌≡◌}
+use mathlib.Core.List.{List, ◌∷◌}
+use Prim.Native.Nat.{ℕ, ◌+◌, ◌-◌, ◌<◌}
+use lib.ListN.{length, take, drop, length-take}
+use Rattle.rules.specs.Lent.{Lexeme, contents}
+use Rattle.rules.proofs.Listed.{places-length}
+use Rattle.list.specs.Entries.{list_meant, first_of}
+use Rattle.list.proofs.Entries.{from_place}
+use Rattle.cst.proofs.Standing.{stands-passes, stands-yields, stands-closed, stands-refused}
 use Rattle.cst.proofs.search.search.Goals as goal
 
-pub loop-place-init : goal.loop-place-init
-loop-place-init c = (rw c.nowhere.ensures (stands-start _ _ _), c.places-room.ensures)
+-- the lexeme at the next of the places up to the list's end, and those after it
+met : (count : ℕ) (ls : List Lexeme) {start end place : ℕ} {l : Lexeme} → end ≡ length (take count ls) → 0 < end - start → place ≡ start → l ≡ first_of (drop place ls) →
+    drop start (take count ls) ≡ l ∷ drop (start + 1) (take count ls)
+met count ls {start = start} {l = l} ended ahead same here = from_place count ls start l (omega (arith, ended, ahead)) (rw same at here)
 
-pub next-effect-requires : goal.next-effect-requires
-next-effect-requires c =
-    let st = c.loop-place.invariant.0 in
-    record { some-open = st.lower; small = omega (arith, st.upper, c.if-end-place.false, c.requires.inside); good = st.good }
+pub effect_in_room-requires : goal.effect_in_room-requires
+effect_in_room-requires c =
+    let a = c.args in
+    let turn = c.in-Some.ensures.steps in
+    omega (arith, c.loop-place.invariant.stands.upper, c.loop-place.invariant.end, turn.1.0, length-take a.count (contents (list_meant a.list)), places-length a.list.kinds.now a.list.words.now)
 
-pub parts_after-parts-requires : goal.parts_after-parts-requires
-parts_after-parts-requires c = omega (arith, c.loop-place.invariant.0.fewer, c.if-end-place.false, c.ranges.end)
-
-pub overflow_add-place : goal.overflow_add-place
-overflow_add-place c = record { fits = omega (arith, c.if-end-place.false, c.ranges.end) }
-
-pub loop-place-smaller : goal.loop-place-smaller
-loop-place-smaller c = omega (arith, c.if-end-place.false)
+pub loop-place-preserved-in-Ok-Passes : goal.loop-place-preserved-in-Ok-Passes
+loop-place-preserved-in-Ok-Passes c =
+    let known = c.loop-place.invariant in
+    let turn = c.in-Some.ensures.steps in
+    let here = met _ _ known.end turn.1.0 turn.1.1 c.get.ensures in
+    record {
+      end = rw (turn.0, known.end);
+      stands = rw turn.1.2 (stands-passes known.stands _ here (rw (known.room, c.in-Ok-Passes.field-0-is) at c.in-Ok-Passes.ensures));
+      same = known.same;
+      room = known.room;
+    }
 
 pub loop-place-preserved : goal.loop-place-preserved
 loop-place-preserved c =
-    let st = c.loop-place.invariant.0 in
-    let a = c.args in
-    let does = sym c.next-effect.ensures ∙ ap effect_meant c.in-Goes.is in
-    let here = next-in (arrays a.kinds.now a.words.now) a.end c.loop-place.place c.requires.inside (omega (arith, c.if-end-place.false)) _ c.get-entry.ensures in
-    (rw (add-one, c.parts_after-parts.ensures) (stands_on st _ here c.in-Goes.moved (rw c.loop-place.invariant.1 at does) c.write.ensures _ c.open_after-opened.ensures), c.loop-place.invariant.1)
+    let known = c.loop-place.invariant in
+    let turn = c.in-Some.ensures.steps in
+    let here = met _ _ known.end turn.1.0 turn.1.1 c.get.ensures in
+    record {
+      end = rw (turn.0, known.end);
+      stands = rw (turn.1.2, c.only_string-opened-in-Ok-Yields.ensures.depth, c.only_string-opened-in-Ok-Yields.ensures.hole)
+          (stands-yields known.stands _ here (rw (known.room, c.in-Ok-Yields.field-0-is) at c.in-Ok-Yields.ensures) c.from.ensures c.put.ensures.put);
+      same = rw (c.put.ensures.same.0, c.put.ensures.same.1) known.same;
+      room = known.room;
+    }
 
-pub shape_of-pkinds-then-end-place : goal.shape_of-pkinds-then-end-place
-shape_of-pkinds-then-end-place c = (as_long c.loop-place.invariant.0).kinds
+pub returns-in-Ok-Closes-clause-searched : goal.returns-in-Ok-Closes-clause-searched
+returns-in-Ok-Closes-clause-searched c =
+    let known = c.loop-place.invariant in
+    let turn = c.in-Some.ensures.steps in
+    let here = met _ _ known.end turn.1.0 turn.1.1 c.get.ensures in
+    stands-closed known.stands _ here turn.1.1 (rw (known.room, c.in-Ok-Closes.field-0-is) at c.in-Ok-Closes.ensures)
 
-pub shape_of-pwords-then-end-place : goal.shape_of-pwords-then-end-place
-shape_of-pwords-then-end-place c = (as_long c.loop-place.invariant.0).words
-
-pub returns-then-end-place : goal.returns-then-end-place
-returns-then-end-place c =
-    let st = c.loop-place.invariant.0 in
-    let a = c.args in
-    let all = end-length (arrays a.kinds.now a.words.now) a.end c.requires.inside in
-    rw (c.refuse.ensures, c.nowhere-then-end-place.ensures) (stands-ended st (omega (arith, all, c.if-end-place.true)))
-
-pub shape_of-pkinds-in_default : goal.shape_of-pkinds-in_default
-shape_of-pkinds-in_default c = (as_long c.loop-place.invariant.0).kinds
-
-pub shape_of-pwords-in_default : goal.shape_of-pwords-in_default
-shape_of-pwords-in_default c = (as_long c.loop-place.invariant.0).words
-
-pub returns-in_default : goal.returns-in_default
-returns-in_default c =
-    let st = c.loop-place.invariant.0 in
-    let a = c.args in
-    let does = sym c.next-effect.ensures ∙ ap effect_meant c.in_default.is in
-    let here = next-in (arrays a.kinds.now a.words.now) a.end c.loop-place.place c.requires.inside (omega (arith, c.if-end-place.false)) _ c.get-entry.ensures in
-    rw (c.stopped-answer.ensures, c.in_default.is) (stands-stopped st _ here c.in_default.field-0 (rw c.loop-place.invariant.1 at does))
+pub returns-in-Err-clause-searched : goal.returns-in-Err-clause-searched
+returns-in-Err-clause-searched c =
+    let known = c.loop-place.invariant in
+    let turn = c.in-Some.ensures.steps in
+    let here = met _ _ known.end turn.1.0 turn.1.1 c.get.ensures in
+    stands-refused known.stands _ here (rw known.room at c.in-Err.ensures)

@@ -7,66 +7,65 @@ use borrow.Author.Tests.{lt-ltb, le-leb}
 use mathlib.Core.Option.{Option}
 use Rattle.rules.specs.Spans.{Span, span, limit}
 use Rattle.rules.specs.Answers.{Answer}
-use Rattle.rules.specs.Lent.{Lexeme, arrays}
+use Rattle.rules.specs.Lent.{Lexeme, array_places}
 use Rattle.rules.specs.Walker.{walking, is_misplaced}
-use Rattle.list.specs.Entries.{entry_meant}
-use Rattle.lexer.specs.Stepping.{moved, end_by, moved_by}
+use Rattle.list.specs.Entries.{entry_meant, lent_meant}
+use Rattle.lexer.specs.Stepping.{moved, end_by, moved_by, top_of}
 use Rattle.lexer.proofs.Openers.{misplaced-found}
-use Rattle.lexer.proofs.Parts.{packed}
 use Rattle.lexer.proofs.Walking.{fresh, walking-misplaced, walking_on, walking-inside, walking-shallow, end-still, stays_by, walks-by}
 use Rattle.lexer.proofs.stepping.step_at.Goals as goal
 
-pub returns-then-text-gt-LIMIT : goal.returns-then-text-gt-LIMIT
+pub returns-then-text-gt-LIMIT-clause-walks : goal.returns-then-text-gt-LIMIT-clause-walks
 unfolding walking
-returns-then-text-gt-LIMIT c =
+returns-then-text-gt-LIMIT-clause-walks c =
     let a = c.args in
-    let start = packed a.doc 0 0 c.pack-start.result.low c.pack-start.result.high (omega arith) (omega arith) c.pack-start.ensures in
-    rw c.stays.ensures (stays_by a.doc a.position a.depth a.text.now (arrays a.skinds.now a.swords.now) _ (rw (c.refuse-long.ensures, start, lt-ltb limit _ c.if-text-gt-LIMIT.true)) tt)
+    let start = c.start_of-start.ensures in
+    rw c.stays.ensures (stays_by a.doc a.position a.depth a.text.now (lent_meant a.stack.now) _ (rw (c.refuse.ensures, start, lt-ltb limit _ c.if-text-gt-LIMIT.true)) tt)
 
-pub returns-then-misplaced : goal.returns-then-misplaced
-returns-then-misplaced c =
+pub returns-then-misplaced-clause-walks : goal.returns-then-misplaced-clause-walks
+returns-then-misplaced-clause-walks c =
     let a = c.args in
-    let w = fresh a.doc a.position a.text.now (arrays a.skinds.now a.swords.now) a.depth in
-    let start = packed a.doc 0 0 c.pack-start.result.low c.pack-start.result.high (omega arith) (omega arith) c.pack-start.ensures in
-    let misplaced : is_misplaced a.text.now w (arrays a.skinds.now a.swords.now) ≡ true = misplaced-found a.text.now w (arrays a.skinds.now a.swords.now) _ _ _ c.misplaced.ensures c.places-places.ensures (ap (λ (l : Lexeme). l.kind) c.top-opener.ensures) ∙ c.if-misplaced.true in
-    rw c.stays-then-misplaced.ensures (stays_by a.doc a.position a.depth a.text.now (arrays a.skinds.now a.swords.now) _ (rw (c.refuse-wrong.ensures, start) (sym (walking-misplaced a.doc a.position a.text.now (arrays a.skinds.now a.swords.now) a.depth (omega (arith, c.if-text-gt-LIMIT.false)) misplaced))) tt)
+    let w = fresh a.doc a.position a.text.now (lent_meant a.stack.now) a.depth in
+    let start = c.start_of-start.ensures in
+    let misplaced : is_misplaced a.text.now w (lent_meant a.stack.now) ≡ true = misplaced-found a.text.now w (lent_meant a.stack.now) _ _ _ c.misplaced.ensures (c.places-places.ensures.places ∙ ap array_places c.list.ensures) (ap (λ (l : Lexeme). l.kind) (c.top-opener.ensures ∙ ap (top_of a.depth) c.list-2.ensures)) ∙ c.if-misplaced.true in
+    rw c.stays-then-misplaced.ensures (stays_by a.doc a.position a.depth a.text.now (lent_meant a.stack.now) _ (rw (c.refuse-then-misplaced.ensures, start) (sym (walking-misplaced a.doc a.position a.text.now (lent_meant a.stack.now) a.depth (omega (arith, c.if-text-gt-LIMIT.false)) misplaced))) tt)
 
 pub pack-at-requires : goal.pack-at-requires
 pack-at-requires c =
     let a = c.args in
-    let w = fresh a.doc a.position a.text.now (arrays a.skinds.now a.swords.now) a.depth in
-    let misplaced : is_misplaced a.text.now w (arrays a.skinds.now a.swords.now) ≡ false = misplaced-found a.text.now w (arrays a.skinds.now a.swords.now) _ _ _ c.misplaced.ensures c.places-places.ensures (ap (λ (l : Lexeme). l.kind) c.top-opener.ensures) ∙ c.if-misplaced.false in
-    let inside = walking-inside a.doc a.position a.text.now (arrays a.skinds.now a.swords.now) a.depth misplaced in
+    let w = fresh a.doc a.position a.text.now (lent_meant a.stack.now) a.depth in
+    let misplaced : is_misplaced a.text.now w (lent_meant a.stack.now) ≡ false = misplaced-found a.text.now w (lent_meant a.stack.now) _ _ _ c.misplaced.ensures (c.places-places.ensures.places ∙ ap array_places c.list.ensures) (ap (λ (l : Lexeme). l.kind) (c.top-opener.ensures ∙ ap (top_of a.depth) c.list-2.ensures)) ∙ c.if-misplaced.false in
+    let inside = walking-inside a.doc a.position a.text.now (lent_meant a.stack.now) a.depth misplaced in
     (omega (arith, inside, c.if-text-gt-LIMIT.false), omega (arith, inside, c.if-text-gt-LIMIT.false))
 
-pub returns-then-text-position : goal.returns-then-text-position
+pub returns-then-text-position-clause-walks : goal.returns-then-text-position-clause-walks
 unfolding moved_by
-returns-then-text-position c =
+returns-then-text-position-clause-walks c =
     let a = c.args in
-    let w = fresh a.doc a.position a.text.now (arrays a.skinds.now a.swords.now) a.depth in
-    let misplaced : is_misplaced a.text.now w (arrays a.skinds.now a.swords.now) ≡ false = misplaced-found a.text.now w (arrays a.skinds.now a.swords.now) _ _ _ c.misplaced.ensures c.places-places.ensures (ap (λ (l : Lexeme). l.kind) c.top-opener.ensures) ∙ c.if-misplaced.false in
-    let inside = walking-inside a.doc a.position a.text.now (arrays a.skinds.now a.swords.now) a.depth misplaced in
-    let at = packed a.doc a.position a.position c.pack-at.result.low c.pack-at.result.high (omega (arith, inside, c.if-text-gt-LIMIT.false)) (omega (arith, inside, c.if-text-gt-LIMIT.false)) c.pack-at.ensures in
-    let on = walking_on a.doc a.position a.text.now (arrays a.skinds.now a.swords.now) a.depth (omega (arith, c.if-text-gt-LIMIT.false)) misplaced in
-    let ends = c.at_end.ensures ∙ ap (λ (s : Span). end_by s a.depth (entry_meant c.top-opener.result)) at ∙ ap (λ (l : Lexeme). end_by (span a.doc a.position a.position) a.depth l) c.top-opener.ensures in
-    rw c.stays-then-text-position.ensures (stays_by a.doc a.position a.depth a.text.now (arrays a.skinds.now a.swords.now) _ (ap (λ (x : Answer (Option Lexeme)). moved x a.position a.depth) ends ∙ sym (on ∙ rw (le-leb (length a.text.now) a.position c.if-text-position.true))) (rw c.at_end.ensures (end-still _ a.depth _)))
+    let w = fresh a.doc a.position a.text.now (lent_meant a.stack.now) a.depth in
+    let misplaced : is_misplaced a.text.now w (lent_meant a.stack.now) ≡ false = misplaced-found a.text.now w (lent_meant a.stack.now) _ _ _ c.misplaced.ensures (c.places-places.ensures.places ∙ ap array_places c.list.ensures) (ap (λ (l : Lexeme). l.kind) (c.top-opener.ensures ∙ ap (top_of a.depth) c.list-2.ensures)) ∙ c.if-misplaced.false in
+    let inside = walking-inside a.doc a.position a.text.now (lent_meant a.stack.now) a.depth misplaced in
+    let at = c.pack-at.ensures in
+    let on = walking_on a.doc a.position a.text.now (lent_meant a.stack.now) a.depth (omega (arith, c.if-text-gt-LIMIT.false)) misplaced in
+    let ends = c.at_end.ensures ∙ ap (λ (s : Span). end_by s a.depth (entry_meant c.top-opener.result)) at ∙ ap (λ (l : Lexeme). end_by (span a.doc a.position a.position) a.depth l) (c.top-opener.ensures ∙ ap (top_of a.depth) c.list-2.ensures) in
+    rw c.stays-then-text-position.ensures (stays_by a.doc a.position a.depth a.text.now (lent_meant a.stack.now) _ (ap (λ (x : Answer (Option Lexeme)). moved x a.position a.depth) ends ∙ sym (on ∙ rw (le-leb (length a.text.now) a.position c.if-text-position.true))) (rw c.at_end.ensures (end-still _ a.depth _)))
 
 pub step_on-requires : goal.step_on-requires
 step_on-requires c =
     let a = c.args in
-    let w = fresh a.doc a.position a.text.now (arrays a.skinds.now a.swords.now) a.depth in
-    let misplaced : is_misplaced a.text.now w (arrays a.skinds.now a.swords.now) ≡ false = misplaced-found a.text.now w (arrays a.skinds.now a.swords.now) _ _ _ c.misplaced.ensures c.places-places.ensures (ap (λ (l : Lexeme). l.kind) c.top-opener.ensures) ∙ c.if-misplaced.false in
+    let w = fresh a.doc a.position a.text.now (lent_meant a.stack.now) a.depth in
+    let misplaced : is_misplaced a.text.now w (lent_meant a.stack.now) ≡ false = misplaced-found a.text.now w (lent_meant a.stack.now) _ _ _ c.misplaced.ensures (c.places-places.ensures.places ∙ ap array_places c.list.ensures) (ap (λ (l : Lexeme). l.kind) (c.top-opener.ensures ∙ ap (top_of a.depth) c.list-2.ensures)) ∙ c.if-misplaced.false in
     record {
       inside = omega (arith, c.if-text-position.false);
       small = omega (arith, c.if-text-gt-LIMIT.false);
-      shallow = walking-shallow a.doc a.position a.text.now (arrays a.skinds.now a.swords.now) a.depth misplaced;
-      innermost = c.top-opener.ensures;
+      shallow = walking-shallow a.doc a.position a.text.now (lent_meant a.stack.now) a.depth misplaced;
+      innermost = (c.top-opener.ensures ∙ ap (top_of a.depth) c.list-2.ensures);
     }
 
-pub returns : goal.returns
-returns c =
+pub returns-clause-walks : goal.returns-clause-walks
+returns-clause-walks c =
     let a = c.args in
-    let w = fresh a.doc a.position a.text.now (arrays a.skinds.now a.swords.now) a.depth in
-    let misplaced : is_misplaced a.text.now w (arrays a.skinds.now a.swords.now) ≡ false = misplaced-found a.text.now w (arrays a.skinds.now a.swords.now) _ _ _ c.misplaced.ensures c.places-places.ensures (ap (λ (l : Lexeme). l.kind) c.top-opener.ensures) ∙ c.if-misplaced.false in
-    let on = walking_on a.doc a.position a.text.now (arrays a.skinds.now a.swords.now) a.depth (omega (arith, c.if-text-gt-LIMIT.false)) misplaced in
-    walks-by a.doc a.position a.depth a.text.now (arrays a.skinds.now a.swords.now) c.step_on.result (c.step_on.ensures.moves ∙ rw c.top-opener.ensures (sym on)) c.step_on.ensures.coded c.step_on.ensures.stacked
+    let w = fresh a.doc a.position a.text.now (lent_meant a.stack.now) a.depth in
+    let misplaced : is_misplaced a.text.now w (lent_meant a.stack.now) ≡ false = misplaced-found a.text.now w (lent_meant a.stack.now) _ _ _ c.misplaced.ensures (c.places-places.ensures.places ∙ ap array_places c.list.ensures) (ap (λ (l : Lexeme). l.kind) (c.top-opener.ensures ∙ ap (top_of a.depth) c.list-2.ensures)) ∙ c.if-misplaced.false in
+    let on = walking_on a.doc a.position a.text.now (lent_meant a.stack.now) a.depth (omega (arith, c.if-text-gt-LIMIT.false)) misplaced in
+    walks-by a.doc a.position a.depth a.text.now (lent_meant a.stack.now) c.step_on.result (c.step_on.ensures.steps.moves ∙ rw (c.top-opener.ensures ∙ ap (top_of a.depth) c.list-2.ensures) (sym on)) c.step_on.ensures.steps.stacked

@@ -6,4 +6,4 @@ use Rattle.source.proofs.Span.is_bad.Goals as goal
 pub returns : goal.returns
 returns c =
     let p = c.args.self in
-    rw (c.end-e.ensures, c.start-s.ensures, bad-of-words p.low p.high (omega arith))
+    rw (c.end.ensures, c.start.ensures, bad-of-words p.low p.high (omega arith))

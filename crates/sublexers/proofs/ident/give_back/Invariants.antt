@@ -2,8 +2,8 @@
 use Rattle.sublexers.proofs.Identifier.{Back}
 use Rattle.sublexers.proofs.ident.give_back.Given as goal
 
-abbrev pub invariant-loop-i : goal.invariant-loop-i
-invariant-loop-i l = Back l.text l.at l.end l.i
+abbrev pub invariant-loop-end : goal.invariant-loop-end
+invariant-loop-end l = Back l.text l.at l.initial.end l.end
 
-abbrev pub decreases-loop-i : goal.decreases-loop-i
-decreases-loop-i l = l.i
+abbrev pub decreases-loop-end : goal.decreases-loop-end
+decreases-loop-end l = l.end

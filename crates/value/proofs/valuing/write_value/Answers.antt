@@ -1,34 +1,15 @@
--- An unbroken value is the first part of the text (`value-in-text`, `unbroken-part`), any other is written (`value-in-output`).
-use mathlib.Core.Path.{◌≡◌, sym, ap, ◌∙◌}
-use mathlib.Core.Bool.{true, false}
-use lib.ListN.{take}
-use Rattle.rules.specs.Answers.{given}
-use Rattle.rules.specs.Lent.{Lexeme, lexemes_in}
-use Rattle.rules.specs.Value.{Held, is_unbroken, in_text, text_part}
-use Rattle.list.specs.Entries.{entry_meant, first_of}
-use Rattle.value.specs.Meaning.{answer_meant}
-use Rattle.value.proofs.Refusing.{first-listed}
-use Rattle.value.proofs.Unbroken.{unbroken-part, value-in-text, value-in-output}
+-- A value that is not handed back as a part of the text is written, or its writing ends.
+use Rattle.std.proofs.Common.{◌≡◌, sym, ◌∙◌, rules}
+use Rattle.rules.specs.Answers.{refused}
+use Rattle.source.specs.Meaning.{refusal_meant}
+use Rattle.value.specs.Meaning.{held_answer}
+use Rattle.value.proofs.Unbroken.{value-in-output, value-not-written}
 use Rattle.value.proofs.valuing.write_value.Goals as goal
 
-pub returns-then-is_unbroken : goal.returns-then-is_unbroken
-returns-then-is_unbroken c =
-    let a = c.args in
-    let text = a.text.now in
-    let out = a.output.now in
-    let ls = take a.count (lexemes_in a.kinds.now a.words.now) in
-    let one : is_unbroken text a.indent ls ≡ true = sym c.is_unbroken.ensures ∙ c.if-is_unbroken.true in
-    let part = unbroken-part text a.indent ls one in
-    let first : first_of ls ≡ entry_meant c.get.result = first-listed a.count (lexemes_in a.kinds.now a.words.now) 0 part.0 ∙ sym c.get.ensures in
-    let same : text_part ls ≡ in_text (entry_meant c.get.result).at.start (entry_meant c.get.result).at.end = part.1 ∙ ap (λ (l : Lexeme). in_text l.at.start l.at.end) first in
-    let answer : answer_meant c.text_part.result ≡ given (text_part ls) = c.text_part.ensures ∙ ap (λ (w : Held). given w) (sym same) in
-    rw answer (value-in-text text a.indent ls a.position out one)
+pub returns-in_err-end : goal.returns-in_err-end
+returns-in_err-end c =
+    let stops : held_answer c.from_residual.result ≡ refused (refusal_meant c.in_err-end.field-0.0) = search rules in
+    rw stops (value-not-written (sym c.is_unbroken.ensures ∙ c.if-is_unbroken.false) c.in_err-end.ensures)
 
 pub returns : goal.returns
-returns c =
-    let a = c.args in
-    let text = a.text.now in
-    let out = a.output.now in
-    let ls = take a.count (lexemes_in a.kinds.now a.words.now) in
-    let more : is_unbroken text a.indent ls ≡ false = sym c.is_unbroken.ensures ∙ c.if-is_unbroken.false in
-    rw c.output_part.ensures (value-in-output text a.indent ls a.position out more c.write_parts-reached.ensures)
+returns c = value-in-output (sym c.is_unbroken.ensures ∙ c.if-is_unbroken.false) c.in_ok-end.ensures

@@ -1,7 +1,0 @@
--- `four` is isFour: what `octet` ensures of each test, put together.
-use Rattle.rules.specs.Utf8.{is_four}
-use Rattle.utf8.proofs.four.Goals as goal
-
-pub returns : goal.returns
-unfolding is_four
-returns c = rw (c.octet-tb.ensures, c.octet-tc.ensures, c.octet-td.ensures, c.octet.ensures, c.octet-2.ensures, c.octet-3.ensures, c.octet-4.ensures, c.octet-5.ensures)

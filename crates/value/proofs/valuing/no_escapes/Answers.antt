@@ -1,8 +1,0 @@
--- Each arm knows the answer that it has.
-use Rattle.value.proofs.valuing.no_escapes.Goals as goal
-
-pub returns-in-Refused : goal.returns-in-Refused
-returns-in-Refused c = rw c.in-Refused.is
-
-pub returns-in-Accepted : goal.returns-in-Accepted
-returns-in-Accepted c = rw c.in-Accepted.is

@@ -1,6 +1,0 @@
--- The words as they are put.
-use mathlib.Core.Path.{refl}
-use Rattle.words.proofs.refusals.no_note.Goals as goal
-
-pub returns : goal.returns
-returns c = refl
