@@ -1,4 +1,4 @@
 pub mod Found
 pub mod Standing
--- what the answers on a code say of it
+-- what is said of an entry that is a part, and of one that is none
 pub mod Told

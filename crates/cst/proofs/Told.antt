@@ -21,11 +21,6 @@ pub part_same : (l q : Lexeme) → some q ≡ if_part l → q ≡ l
 unfolding if_part
 part_same l q h = grind arith
 
--- and has a part's kind
-pub part-kind : (l q : Lexeme) → some q ≡ if_part l → between StringInner HoleOpen l.kind ≡ true
-unfolding if_part
-part-kind l q h = grind arith
-
 module _ (l : Lexeme) (h : none ≡ if_part l) where
   -- what is no part has no part's kind
   pub no-part-kind : between StringInner HoleOpen l.kind ≡ false

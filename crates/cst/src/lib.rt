@@ -45,10 +45,10 @@ impl fmt::Display for NoPart {
 
 impl Error for NoPart {}
 
-// What listing the parts answers, the closer's place or a refusal, and how many were put into the list: a refusal leaves those before it listed.
+// What a call that lists parts answers, or a refusal, and how many were put into the list: a refusal leaves those before it listed.
 #[derive(Clone, Copy, Debug, PartialEq, Eq)]
-pub struct Parted {
-    pub answer: Result<usize, Refusal>,
+pub struct Parted<T> {
+    pub answer: Result<T, Refusal>,
     pub parts: usize,
 }
 
@@ -96,7 +96,7 @@ impl From<StringPart> for Entry {
     }
 }
 
-// An entry of a list as a part.
+// An entry of a list as a part. Kept: by the codes of the five kinds; by the code's token the search for the closer takes 6 to 13 % more instructions on format and triple-quoted strings.
 impl TryFrom<Entry> for StringPart {
     type Error = NoPart;
 

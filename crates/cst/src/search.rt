@@ -1,9 +1,9 @@
 // The parts list: from an opener's place to its closer.
-ghost use Rattle.std.specs.Prelude.{◌≡◌, ◌+◌, ◌<◌, ◌^◌, false};
+ghost use Rattle.std.specs.Prelude.{◌≡◌, ◌+◌, ◌<◌, ◌^◌, false, drop};
 ghost use Rattle.rules.specs.Spans.{nowhere, is_bad};
 ghost use Rattle.rules.specs.Answers.{refusal as refusal_rule};
 ghost use Rattle.rules.specs.Refusals.{BadSpan};
-ghost use Rattle.rules.specs.Lent.{lexemes_from};
+ghost use Rattle.rules.specs.Lent.{contents};
 ghost use Rattle.rules.specs.Parts.{at_depth1, effect, parts_from, ListsParts};
 ghost use Rattle.source.specs.Meaning.{span_meant, refusal_meant, answer_meant, count_meant, verdict_meant};
 ghost use Rattle.list.specs.Entries.{entry_meant, list_meant, lent_meant, SameArrays};
@@ -20,13 +20,6 @@ enum Effect {
     Closes,
     Passes(Open),
     Yields(StringPart),
-}
-
-// "Refusal 3 carries the span 0-0"
-fn bad_span() -> Refusal
-    ensures { refusal_meant result ≡ refusal_rule BadSpan nowhere }
-{
-    source::refuse(Reason::BadSpan, source::nowhere())
 }
 
 // "At depth 1, StringInner and Escape are parts; a hole is one part ..; a QuoteClose met at depth 1 ends; any other kind at depth 1 .. gives 50"
@@ -51,7 +44,7 @@ fn effect_at(opened: Open, entry: Entry) -> Result<Effect, Refusal>
 {
     let Open { depth, hole } = opened;
     if entry.at.is_bad() {
-        return Err(bad_span());
+        return Err(source::bad_span());
     }
     if depth == 1 {
         return at_depth1(entry);
@@ -95,7 +88,7 @@ fn check_opener(entry: Entry) -> Result<(), Refusal>
     ensures { verdict_meant result ≡ opener_verdict (entry_meant entry) }
 {
     if entry.at.is_bad() {
-        return Err(bad_span());
+        return Err(source::bad_span());
     }
     if !token::is_quote_open(entry.kind) {
         return Err(source::refuse(Reason::NoString, entry.at));
@@ -104,12 +97,12 @@ fn check_opener(entry: Entry) -> Result<(), Refusal>
 }
 
 // Lists the parts from a place on, at depth 1, up to the closer. Its place, or the refusal, leaves the loop by `break`. Kept: over the places by `next`, since a `for` has no value.
-fn search(list: List<'_>, count: usize, start: usize, parts: &mut ListMut<'_>) -> Parted
-    ensures searched { Searched (parts_from start 1 nowhere (lexemes_from (list_meant list.entry) count start)) (count_meant result.answer) result.parts (lent_meant parts.old) (lent_meant parts.new) }
+fn search(list: List<'_>, start: usize, parts: &mut ListMut<'_>) -> Parted<usize>
+    ensures searched { Searched (parts_from start 1 nowhere (drop start (contents (list_meant list.entry)))) (count_meant result.answer) result.parts (lent_meant parts.old) (lent_meant parts.new) }
     ensures same { SameArrays parts.old parts.new }
 {
     let room = parts.list().places();
-    let mut places = start..list.end(count);
+    let mut places = start..list.places();
     let mut opened = Open::only_string();
     let mut listed: usize = 0;
     let answer = loop {
@@ -133,19 +126,21 @@ fn search(list: List<'_>, count: usize, start: usize, parts: &mut ListMut<'_>) -
     }
 }
 
-// Lists the parts of the string whose opener stands at a place.
-pub fn parts(list: List<'_>, count: usize, place: usize, parts: &mut ListMut<'_>) -> Parted
+// Lists the parts of the string whose opener stands at a place, and answers its closer's place.
+// Kept: the list with its count, as the rule's call and C have them; below it the list is that of its first entries.
+pub fn parts(list: List<'_>, count: usize, place: usize, parts: &mut ListMut<'_>) -> Parted<usize>
     ensures lists { ListsParts (list_meant list.entry) count place (lent_meant parts.old) (count_meant result.answer) result.parts (lent_meant parts.new) }
     ensures same { SameArrays parts.old parts.new }
 {
-    if list.end(count) <= place {
+    let list = list.first(count);
+    if list.places() <= place {
         return Parted {
             answer: Err(source::refuse(Reason::NoString, source::nowhere())),
             parts: 0,
         };
     }
     match check_opener(list.get(place)) {
-        Ok(()) => search(list, count, place + 1, parts),
+        Ok(()) => search(list, place + 1, parts),
         Err(refusal) => Parted {
             answer: Err(refusal),
             parts: 0,

@@ -6,7 +6,7 @@ ghost use Rattle.rules.specs.Tidy.{gap as gap_rule};
 ghost use Rattle.output.specs.Places.{Put};
 ghost use Rattle.gap.specs.Gaps.{gap_meant};
 
-use output::Full;
+use output::{Full, Output};
 use rules::kind;
 
 // What stands between two lexemes.
@@ -30,18 +30,13 @@ pub fn gap_between(first: u8, second: u8) -> Gap
     Gap::Space
 }
 
-// Writes a gap and the lexeme after it, whole or not: the position behind them.
-pub fn put_piece(
-    between: Gap,
-    lexeme: &[u8],
-    output: &mut [u8],
-    position: usize,
-) -> Result<usize, Full>
-    ensures { Put (gap_meant between ++ lexeme.now) position output.old result output.new }
+// Writes a gap and the lexeme after it, whole or not.
+pub fn put_piece(between: Gap, lexeme: &[u8], output: &mut Output<'_>) -> Result<(), Full>
+    ensures { Put (gap_meant between ++ lexeme.now) output.old result output.new }
 {
     match between {
-        Gap::Nothing => output::put(lexeme, output, position),
-        Gap::LineEnd => output::put_two(b"\n", lexeme, output, position),
-        Gap::Space => output::put_two(b" ", lexeme, output, position),
+        Gap::Nothing => output.put(lexeme),
+        Gap::LineEnd => output.put_two(b"\n", lexeme),
+        Gap::Space => output.put_two(b" ", lexeme),
     }
 }

@@ -47,7 +47,7 @@ pub fn hand_in_one_lifetime<'a>(text: &'a [u8], output: &'a [u8], part: Held) ->
     }
 }
 
-// The part: "two slices with their own lifetimes". Kept: beside the one above it, since the two slices are lent on for one lifetime first.
+// The part: "two slices with their own lifetimes". Kept: beside the one above it, whose callers inside Rattle have one lifetime; with two, passed on as they are, the check finds no proof of the test of both.
 pub fn hand<'t: 'r, 'o: 'r, 'r>(text: &'t [u8], output: &'o [u8], part: Held) -> &'r [u8]
     ensures hands_back { HandsBack text.now output.now (held_meant part) result.now }
     ensures address { result.ref_ptr ≡ handed_at text.entry output.entry (held_meant part) }

@@ -1,5 +1,5 @@
 -- Whitespace behind a lexeme: outside strings it is the step there.
-use Rattle.std.specs.Prelude.{Option as CodeOption}
+use Rattle.std.specs.Prelude.{Option as CodeOption, Some, None}
 use Prim.Native.Nat.{ℕ, ◌+◌, ◌≤◌, ◌<◌}
 use mathlib.Core.Path.{◌≡◌, refl, sym, ◌∙◌}
 use mathlib.Core.List.{List}
@@ -24,7 +24,7 @@ use Rattle.sublexers.specs.Outcome.{lexeme_to, outcome, innermost_of}
 use Rattle.lexer.specs.Mode.{mode_of}
 use Rattle.lexer.specs.Running.{behind_of}
 use Rattle.lexer.specs.declared.Behind.{Behind}
-use Rattle.lexer.specs.declared.Behind.TheVariants.{Nothing as NoneBehind, Space as SpaceBehind, Blank as BlankBehind}
+use Rattle.lexer.specs.declared.Behind.TheVariants.{Space as SpaceBehind, Blank as BlankBehind}
 use Rattle.lexer.proofs.Steps.{step-outside, here-whitespace}
 
 whitespace-class : (b : ℕ) → is_whitespace b ≡ true → class_of b ≡ Whitespace
@@ -39,16 +39,16 @@ pub record Ahead (t : List ℕ) (at stop : ℕ) (top : CodeOption StateCode) (k 
   pub fits : e ≤ length t
 
 -- by the three tests
-abbrev behind_by : (x y blank : Bool) → ℕ → Behind
-behind_by x y blank end = cond x NoneBehind (cond y NoneBehind (cond blank (BlankBehind end) (SpaceBehind end)))
+abbrev behind_by : (x y blank : Bool) → ℕ → CodeOption Behind
+behind_by x y blank end = cond x None (cond y None (cond blank (Some (BlankBehind end)) (Some (SpaceBehind end))))
 
-space-by : (x y blank : Bool) (end e : ℕ) → behind_by x y blank end ≡ SpaceBehind e → (x ≡ false) × (y ≡ false) × (blank ≡ false) × (end ≡ e)
+space-by : (x y blank : Bool) (end e : ℕ) → behind_by x y blank end ≡ Some (SpaceBehind e) → (x ≡ false) × (y ≡ false) × (blank ≡ false) × (end ≡ e)
 space-by true y blank end e q = let z : ◌≡◌ {A = ℕ} 0 1 = cc in absurd (omega arith)
 space-by false true blank end e q = let z : ◌≡◌ {A = ℕ} 0 1 = cc in absurd (omega arith)
 space-by false false true end e q = let z : ◌≡◌ {A = ℕ} 0 1 = cc in absurd (omega arith)
 space-by false false false end e q = (refl, refl, refl, cc)
 
-blank-by : (x y blank : Bool) (end e : ℕ) → behind_by x y blank end ≡ BlankBehind e → (x ≡ false) × (y ≡ false) × (blank ≡ true) × (end ≡ e)
+blank-by : (x y blank : Bool) (end e : ℕ) → behind_by x y blank end ≡ Some (BlankBehind e) → (x ≡ false) × (y ≡ false) × (blank ≡ true) × (end ≡ e)
 blank-by true y blank end e q = let z : ◌≡◌ {A = ℕ} 0 1 = cc in absurd (omega arith)
 blank-by false true blank end e q = let z : ◌≡◌ {A = ℕ} 0 1 = cc in absurd (omega arith)
 blank-by false false true end e q = (refl, refl, refl, cc)
@@ -71,26 +71,26 @@ module _ (t : List ℕ) (at stop : ℕ) (top : CodeOption StateCode) (inside : s
         fits = omega (arith, measured-length (drop at t), run-le is_whitespace (drop at t), length-drop at t);
       }
 
-  pub space-ahead : {b : Behind} {e : ℕ} → b ≡ SpaceBehind e → b ≡ behind_of t at stop (mode_of top).stop → Ahead t at stop top Space e
+  pub space-ahead : {b : CodeOption Behind} {e : ℕ} → b ≡ Some (SpaceBehind e) → b ≡ behind_of t at stop (mode_of top).stop → Ahead t at stop top Space e
   space-ahead {b} {e} p q =
       let x = space-by (not (eqb (mode_of top).stop 0) || leb stop at) (eqb (measured (drop at t)).length 0) (leb 2 (measured (drop at t)).lines) (at + (measured (drop at t)).length) e (sym q ∙ p) in
       rw (← x.3) (ahead Space x.0 x.1 (rw x.2 refl))
 
-  pub blank-ahead : {b : Behind} {e : ℕ} → b ≡ BlankBehind e → b ≡ behind_of t at stop (mode_of top).stop → Ahead t at stop top Blank e
+  pub blank-ahead : {b : CodeOption Behind} {e : ℕ} → b ≡ Some (BlankBehind e) → b ≡ behind_of t at stop (mode_of top).stop → Ahead t at stop top Blank e
   blank-ahead {b} {e} p q =
       let x = blank-by (not (eqb (mode_of top).stop 0) || leb stop at) (eqb (measured (drop at t)).length 0) (leb 2 (measured (drop at t)).lines) (at + (measured (drop at t)).length) e (sym q ∙ p) in
       rw (← x.3) (ahead Blank x.0 x.1 (rw x.2 refl))
 
 -- The code measures what the rules ask: nothing in a string, or at the position to stop at
-pub behind-not : (t : List ℕ) (at stop byte : ℕ) → not (eqb byte 0) || leb stop at ≡ true → NoneBehind ≡ behind_of t at stop byte
+pub behind-not : (t : List ℕ) (at stop byte : ℕ) → not (eqb byte 0) || leb stop at ≡ true → None ≡ behind_of t at stop byte
 behind-not t at stop byte e = rw e refl
 
 module _ (t : List ℕ) (at stop byte : ℕ) (m : Measured) (e : measured_meant m ≡ measured (drop at t)) (here : not (eqb byte 0) || leb stop at ≡ false) where
-  pub behind-none : m.length ≡ 0 → NoneBehind ≡ behind_of t at stop byte
+  pub behind-none : m.length ≡ 0 → None ≡ behind_of t at stop byte
   behind-none z = rw (here, ← (measured-run t at m e), z) refl
 
-  pub behind-blank : (m.length ≡ 0 → ⊥) → leb 2 m.lines ≡ true → BlankBehind (at + m.length) ≡ behind_of t at stop byte
+  pub behind-blank : (m.length ≡ 0 → ⊥) → leb 2 m.lines ≡ true → Some (BlankBehind (at + m.length)) ≡ behind_of t at stop byte
   behind-blank z b = rw (here, ← (measured-run t at m e), ← (measured-lines t at m e), ne_eqb m.length 0 z, b) refl
 
-  pub behind-space : (m.length ≡ 0 → ⊥) → leb 2 m.lines ≡ false → SpaceBehind (at + m.length) ≡ behind_of t at stop byte
+  pub behind-space : (m.length ≡ 0 → ⊥) → leb 2 m.lines ≡ false → Some (SpaceBehind (at + m.length)) ≡ behind_of t at stop byte
   behind-space z b = rw (here, ← (measured-run t at m e), ← (measured-lines t at m e), ne_eqb m.length 0 z, b) refl

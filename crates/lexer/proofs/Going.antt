@@ -1,4 +1,4 @@
--- Laws of steps one after the other (`Goes`). The last four are for runs that nobody makes yet: a text that goes on in another's list, a run that ends at a kind, and one without a list.
+-- Laws of steps one after the other (`Goes`). The last four are about a text that goes on in another's list, a run that ends at a kind, and one without a list.
 use Prim.Native.Nat.{ℕ, ◌+◌, ◌-◌, ◌≤◌, ◌<◌, ◌^◌}
 use mathlib.Core.Path.{◌≡◌, refl, sym, ap, ◌∙◌}
 use mathlib.Core.List.{List, [], ◌∷◌, ◌++◌}

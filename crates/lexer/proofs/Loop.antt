@@ -1,28 +1,28 @@
 -- The loop of `lex`, in the words of its parts' contracts: what a step's answer says of the text, and that each way out gives the call's result and arrays.
 use Rattle.std.specs.Prelude.{Option as CodeOption, Some, None, Result, Err}
-use Prim.Native.Nat.{ℕ, ◌+◌, ◌-◌, ◌≤◌, ◌<◌, ◌^◌}
+use Prim.Native.Nat.{ℕ, ◌+◌, ◌-◌, ◌*◌, ◌≤◌, ◌<◌, ◌^◌}
 use mathlib.Core.Path.{◌≡◌, refl, sym, ap, ◌∙◌}
 use mathlib.Core.List.{List, [], ◌∷◌, map}
-use mathlib.Core.Bool.{Bool, true, false, cond, not, ◌&&◌}
+use mathlib.Core.Bool.{Bool, true, false, cond, not}
 use mathlib.Core.Option.{none, some}
 use native.Mathlib.Omega.{arith}
-use lib.Dec.{leb, ltb, eqb}
+use lib.Dec.{ltb, eqb}
 use lib.ListN.{length, drop, get_or, length-drop}
-use borrow.Author.Tests.{eqb-true, eqb-false, lt-leb, ltb-true, ltb-false}
+use borrow.Author.Tests.{eqb-true, eqb-false, ne_eqb, ltb-true, ltb-false}
 use native.Mathlib.Nat.{add-zero, zero-add}
 use Rattle.rules.specs.Reasons.{number_of}
 use Rattle.rules.specs.Utf8.{first_bad}
-use Rattle.rules.specs.Refusals.{NotUtf8, TooLong, AnotherDue, UnclosedBracket, UnclosedHole, UnclosedString, UnclosedFormat, StackFull, ListFull}
+use Rattle.rules.specs.Refusals.{NotUtf8, TooLong, AnotherDue, UnclosedBracket, UnclosedHole, UnclosedString, UnclosedFormat}
 use Rattle.rules.specs.declared.refusal.Reason.{Reason}
 use Rattle.rules.specs.declared.refusal.Reason.TheVariants.{TooLong as LongReason, NotUtf8 as BadReason}
-use Rattle.rules.specs.Spans.{span, limit}
+use Rattle.rules.specs.Spans.{span, span_of, limit}
 use Rattle.rules.specs.Answers.{accepted, refused}
 use Rattle.rules.specs.Kinds.{HoleOpen, Nothing, between, is_space, is_quote_open, is_format, is_opener}
 use Rattle.rules.specs.Step.{Step as StepRule, found, stop, step}
 use Rattle.rules.specs.Lent.{Lexeme, lexeme, Lent, places_in}
 use Rattle.rules.specs.Lexing.{End, stopped, ends, innermost, unclosed, at_end, note_of, verdict_of, Lexed as LexedRule, lexed_of, trace_in, listing, lexing, Lexes}
 use Rattle.rules.proofs.Lent.{all-untouched}
-use Rattle.rules.proofs.Bounds.{found_inside, stop-inside, stop-number}
+use Rattle.rules.proofs.Bounds.{found_inside, stop-inside}
 use Rattle.rules.proofs.Rfc3629.{first-bad}
 use Rattle.rules.proofs.Text.{decide}
 use Rattle.rules.proofs.Trace.{trace-long, trace-bad, within-ends}
@@ -35,7 +35,9 @@ use Rattle.lexer.specs.declared.Lexed.{Lexed}
 use Rattle.lexer.specs.Cursor.{start, advance_of, no_room_of}
 use Rattle.lexer.specs.Going.{innermost_in, put_if}
 use Rattle.sublexers.specs.Outcome.{lexeme_to, refused_at, outcome, step_meant, innermost_of}
-use Rattle.lexer.specs.Results.{lexed_meant, counted_at, note_at, refused_with, verdict_at, CanReport, CanStop, CanFinish}
+use Rattle.lexer.specs.Memory.{opener_in}
+use Rattle.list.proofs.Entries.{lexeme-at}
+use Rattle.lexer.specs.Results.{lexed_meant, counted_at, refused_with, verdict_at, CanReport, CanStop, CanFinish}
 use Rattle.lexer.proofs.Standing.{Standing, opened, codes, bounds, standing_on, top-code, top-none, top-opener, note-some, note-none, note-other, answer, listing-here, standing-end, standing-stop, standing-full}
 
 -- what an outcome says of the step
@@ -87,25 +89,6 @@ unclosed-noted k = pick (eqb k HoleOpen) (is_format k) (is_quote_open k)
     pick false false true = refl
     pick false false false = refl
 
--- of the numbers up to 24 only 24 itself has a note
-below-25 : (n : ℕ) → n ≤ 24 → between AnotherDue UnclosedFormat n ≡ eqb n AnotherDue
-below-25 n h = decide (eqb n 24)
-    (λ e. rw (eqb-true n 24 e))
-    (λ e. rw (e, lt-leb-false 24 n (omega (arith, eqb-false n 24 e))))
-  where
-    lt-leb-false : (m n : ℕ) → n < m → leb m n ≡ false
-    lt-leb-false m n h = lt-leb m n h
-
--- a refusal for want of room has no note
-full-unnoted : (stack places : ℕ) (c : Cursor) (k number : ℕ) → number ≡ no_room_of stack places c k → between AnotherDue UnclosedFormat number ≡ eqb number AnotherDue
-unfolding no_room_of
-full-unnoted stack places c k number e = rw e (pick (is_opener k && leb stack c.depth) (not (is_space k) && leb places c.lexemes))
-  where
-    pick : (a b : Bool) → between AnotherDue UnclosedFormat (cond a StackFull (cond b ListFull 0)) ≡ eqb (cond a StackFull (cond b ListFull 0)) AnotherDue
-    pick true b = refl
-    pick false true = refl
-    pick false false = refl
-
 module _ {doc : ℕ} {text : List ℕ} {list₀ stack₀ list stack : Lent} {c : Cursor} (s : Standing doc text list₀ stack₀ list stack c) where
   -- the innermost code of the stack is that of the steps behind
   pub standing-innermost : innermost_in c.depth stack.arrays.kinds ≡ innermost (codes doc s.past)
@@ -126,39 +109,39 @@ module _ {doc : ℕ} {text : List ℕ} {list₀ stack₀ list stack : Lent} {c :
         stacked = rw d s.untouched;
       }
 
+  -- the innermost opener by the arrays
+  opener-here : 0 < c.depth → opener_in c.depth stack.arrays ≡ lexeme (get_or stack.arrays.kinds (c.depth - 1) 0) (span_of (get_or stack.arrays.words ((c.depth - 1) * 2) 0) (get_or stack.arrays.words ((c.depth - 1) * 2 + 1) 0)) ∷ []
+  opener-here d = rw (ne_eqb c.depth 0 (λ z. absurd (omega arith)), lexeme-at stack.arrays.kinds stack.arrays.words (c.depth - 1) (omega (arith, s.shallow, s.untouched.kinds_length, s.untouched.words_length))) refl
+
   -- the note that the code gives is the rules'
-  note-agrees : (number : ℕ) → between AnotherDue UnclosedFormat number ≡ eqb number AnotherDue → note_at number c.depth stack.arrays.words ≡ note_of number (opened doc s.past)
-  note-agrees number e = decide (eqb number AnotherDue)
-      (λ y. decide (ltb 0 c.depth)
-      (λ d. rw (y, d) (sym (note-some s number (ltb-true 0 c.depth d) (e ∙ y))))
-      (λ d. rw (y, d) (sym (note-none s number (omega (arith, ltb-false 0 c.depth d))))))
-      (λ y. rw y (sym (note-other s number (e ∙ y))))
+  note-agrees : (number : ℕ) → note_of number (opener_in c.depth stack.arrays) ≡ note_of number (opened doc s.past)
+  note-agrees number = decide (ltb 0 c.depth)
+      (λ d. rw (opener-here (ltb-true 0 c.depth d)) (decide (between AnotherDue UnclosedFormat number)
+      (λ b. rw b (sym (note-some s number (ltb-true 0 c.depth d) b)))
+      (λ b. rw b (sym (note-other s number b)))))
+      (λ d.
+      let z : c.depth ≡ 0 = omega (arith, ltb-false 0 c.depth d) in
+      rw z (sym (note-none s number z)))
 
   pub can-report : CanReport c
   can-report = record { steps = (bounds s).steps; dropped = (bounds s).dropped }
 
-  -- the openers that are open lie in the stack's arrays
-  pub can-finish : CanFinish c stack.arrays.kinds stack.arrays.words
-  can-finish = record {
-    at = omega (arith, s.inside, s.small);
-    stack_kinds = omega (arith, s.shallow, s.untouched.kinds_length);
-    stack_words = omega (arith, s.shallow, s.untouched.words_length);
-    counts = can-report;
-  }
+  pub can-finish : CanFinish c
+  can-finish = record { at = omega (arith, s.inside, s.small); counts = can-report }
 
-  pub can-stop : (f : Fault) → (f.start < 2 ^ 48) × (f.end < 2 ^ 48) → CanStop f c stack.arrays.words
-  can-stop f b = record { start = b.0; end = b.1; stack = can-finish.stack_words; counts = can-report }
+  pub can-stop : (f : Fault) → (f.start < 2 ^ 48) × (f.end < 2 ^ 48) → CanStop f c
+  can-stop f b = record { start = b.0; end = b.1; counts = can-report }
 
   -- the text has ended
-  pub end-out : (r : Lexed) → length text ≤ c.at → lexed_meant r ≡ verdict_at doc c stack.arrays.kinds stack.arrays.words → Lexes doc text list₀ stack₀ (lexed_meant r) list stack
+  pub end-out : (r : Lexed) → length text ≤ c.at → lexed_meant r ≡ verdict_at doc c (opener_in c.depth stack.arrays) → Lexes doc text list₀ stack₀ (lexed_meant r) list stack
   end-out r h v = way_out (at_end (codes doc s.past)) r (standing-end s h) (v ∙ at-end)
     where
-      at-end : verdict_at doc c stack.arrays.kinds stack.arrays.words ≡ counted_at (verdict_of doc c.at (opened doc s.past) (at_end (codes doc s.past))) c
+      at-end : verdict_at doc c (opener_in c.depth stack.arrays) ≡ counted_at (verdict_of doc c.at (opened doc s.past) (at_end (codes doc s.past))) c
       at-end = decide (eqb c.depth 0)
           (λ z. rw (z, at-end-none doc c.at (opened doc s.past) (omega (arith, s.counted.depth, eqb-true c.depth 0 z))))
           (λ z.
           let deep : 0 < c.depth = omega (arith, eqb-false c.depth 0 z) in
-          rw (z, at-end-some doc c.at (opened doc s.past) (omega (arith, s.counted.depth)), ← (top-code s deep), note-some s (unclosed (get_or stack.arrays.kinds (c.depth - 1) 0)) deep (unclosed-noted (get_or stack.arrays.kinds (c.depth - 1) 0))))
+          rw (opener-here deep, at-end-some doc c.at (opened doc s.past) (omega (arith, s.counted.depth)), ← (top-code s deep), note-some s (unclosed (get_or stack.arrays.kinds (c.depth - 1) 0)) deep (unclosed-noted (get_or stack.arrays.kinds (c.depth - 1) 0))))
 
   module _ (h : c.at < length text) where
     stop-here : (f : Fault) →
@@ -172,15 +155,14 @@ module _ {doc : ℕ} {text : List ℕ} {list₀ stack₀ list stack : Lent} {c :
     -- the text refuses the step
     pub stop-out : (f : Fault) (r : Lexed) →
         refused_at (number_of f.reason) f.start f.end ≡ outcome c.at (step (innermost_in c.depth stack.arrays.kinds) (drop c.at text)) →
-        lexed_meant r ≡ refused_with doc f c (note_at (number_of f.reason) c.depth stack.arrays.words) → Lexes doc text list₀ stack₀ (lexed_meant r) list stack
+        lexed_meant r ≡ refused_with doc f c (opener_in c.depth stack.arrays) → Lexes doc text list₀ stack₀ (lexed_meant r) list stack
     stop-out f r o v =
         let x : Stop c.at (step (innermost (codes doc s.past)) (drop c.at text)) (number_of f.reason) f.start f.end = stop-here f o in
-        let n : (10 ≤ (number_of f.reason)) × ((number_of f.reason) ≤ 24) = stop-number (innermost (codes doc s.past)) (drop c.at text) (number_of f.reason) x.from x.size x.is in
-        way_out (stopped (number_of f.reason) x.from x.size) r (standing-stop s h (number_of f.reason) x.from x.size x.is) (v ∙ same x (note-agrees (number_of f.reason) (below-25 (number_of f.reason) n.1)))
+        way_out (stopped (number_of f.reason) x.from x.size) r (standing-stop s h (number_of f.reason) x.from x.size x.is) (v ∙ same x (note-agrees (number_of f.reason)))
       where
         same : (x : Stop c.at (step (innermost (codes doc s.past)) (drop c.at text)) (number_of f.reason) f.start f.end) →
-            note_at (number_of f.reason) c.depth stack.arrays.words ≡ note_of (number_of f.reason) (opened doc s.past) →
-            refused_with doc f c (note_at (number_of f.reason) c.depth stack.arrays.words) ≡ counted_at (verdict_of doc c.at (opened doc s.past) (stopped (number_of f.reason) x.from x.size)) c
+            note_of (number_of f.reason) (opener_in c.depth stack.arrays) ≡ note_of (number_of f.reason) (opened doc s.past) →
+            refused_with doc f c (opener_in c.depth stack.arrays) ≡ counted_at (verdict_of doc c.at (opened doc s.past) (stopped (number_of f.reason) x.from x.size)) c
         same x e = unfold verdict_of in rw (e, x.starts, x.ends)
 
     -- the fault's offsets are within the limit
@@ -217,13 +199,13 @@ module _ {doc : ℕ} {text : List ℕ} {list₀ stack₀ list stack : Lent} {c :
 
     -- there is no room for it
     pub full-out : (k e : ℕ) (reason : Reason) (r : Lexed) → Took k e → number_of reason ≡ no_room_of (places_in stack₀) (places_in list₀) c k → (number_of reason ≡ 0 → ⊥) →
-        lexed_meant r ≡ refused_with doc (record { end = e; reason = reason; start = c.at }) c (note_at (number_of reason) c.depth stack.arrays.words) → Lexes doc text list₀ stack₀ (lexed_meant r) list stack
+        lexed_meant r ≡ refused_with doc (record { end = e; reason = reason; start = c.at }) c (opener_in c.depth stack.arrays) → Lexes doc text list₀ stack₀ (lexed_meant r) list stack
     full-out k e reason r t f z v =
         way_out (stopped (number_of reason) 0 t.size) r (standing-full s h k t.size t.moves t.fits t.is (number_of reason) (sym f) z)
-        (v ∙ same (note-agrees (number_of reason) (full-unnoted (places_in stack₀) (places_in list₀) c k (number_of reason) f)))
+        (v ∙ same (note-agrees (number_of reason)))
       where
-        same : note_at (number_of reason) c.depth stack.arrays.words ≡ note_of (number_of reason) (opened doc s.past) →
-            refused_with doc (record { end = e; reason = reason; start = c.at }) c (note_at (number_of reason) c.depth stack.arrays.words) ≡
+        same : note_of (number_of reason) (opener_in c.depth stack.arrays) ≡ note_of (number_of reason) (opened doc s.past) →
+            refused_with doc (record { end = e; reason = reason; start = c.at }) c (opener_in c.depth stack.arrays) ≡
             counted_at (verdict_of doc c.at (opened doc s.past) (stopped (number_of reason) 0 t.size)) c
         same q = unfold verdict_of in rw (q, t.ends) (simp add-zero)
 
@@ -234,7 +216,7 @@ module _ {doc : ℕ} {text : List ℕ} {list₀ stack₀ list stack : Lent} {c :
 
 -- a refusal before the first step leaves everything as it was
 at_once : (doc : ℕ) (text : List ℕ) (list stack : Lent) (reason : Reason) (at : ℕ) (r : Lexed) → trace_in (places_in list) (places_in stack) text ≡ ends (stopped (number_of reason) at 0) →
-    lexed_meant r ≡ refused_with doc (record { end = at; reason = reason; start = at }) start none → Lexes doc text list stack (lexed_meant r) list stack
+    lexed_meant r ≡ refused_with doc (record { end = at; reason = reason; start = at }) start [] → Lexes doc text list stack (lexed_meant r) list stack
 unfolding lexing listing lexed_of verdict_of
 at_once doc text list stack reason at r t v =
     record {
@@ -245,14 +227,14 @@ at_once doc text list stack reason at r t v =
 
 -- the two checks before the first step
 pub long-out : (doc : ℕ) (text : List ℕ) (list stack : Lent) (r : Lexed) → limit < length text →
-    lexed_meant r ≡ refused_with doc (record { end = 0; reason = LongReason; start = 0 }) start none → Lexes doc text list stack (lexed_meant r) list stack
+    lexed_meant r ≡ refused_with doc (record { end = 0; reason = LongReason; start = 0 }) start [] → Lexes doc text list stack (lexed_meant r) list stack
 unfolding trace_in
 long-out doc text list stack r h v =
     let t : trace_in (places_in list) (places_in stack) text ≡ ends (stopped TooLong 0 0) = rw (trace-long text h) (within-ends (places_in stack) 0 (places_in list) (stopped TooLong 0 0)) in
     at_once doc text list stack LongReason 0 r t v
 
 pub bad-out : (doc : ℕ) (text : List ℕ) (list stack : Lent) (bad : ℕ) (r : Lexed) → length text ≤ limit → first_bad text ≡ some bad →
-    lexed_meant r ≡ refused_with doc (record { end = bad; reason = BadReason; start = bad }) start none → Lexes doc text list stack (lexed_meant r) list stack
+    lexed_meant r ≡ refused_with doc (record { end = bad; reason = BadReason; start = bad }) start [] → Lexes doc text list stack (lexed_meant r) list stack
 unfolding trace_in
 bad-out doc text list stack bad r h e v =
     let t : trace_in (places_in list) (places_in stack) text ≡ ends (stopped NotUtf8 bad 0) = rw (trace-bad text bad h e) (within-ends (places_in stack) 0 (places_in list) (stopped NotUtf8 bad 0)) in
@@ -262,5 +244,5 @@ pub bad-inside : (text : List ℕ) (bad : ℕ) → first_bad text ≡ some bad �
 bad-inside text bad e = ((first-bad text bad).0 e).inside
 
 -- a refusal before the first step may be reported
-pub can-stop-first : (text : List ℕ) {bad : ℕ} {reason : Reason} {sw : List ℕ} → bad < length text → length text ≤ limit → CanStop (record { end = bad; reason = reason; start = bad }) start sw
-can-stop-first text b h = record { start = omega arith; end = omega arith; stack = omega arith; counts = record { steps = omega arith; dropped = omega arith } }
+pub can-stop-first : (text : List ℕ) {bad : ℕ} {reason : Reason} → bad < length text → length text ≤ limit → CanStop (record { end = bad; reason = reason; start = bad }) start
+can-stop-first text b h = record { start = omega arith; end = omega arith; counts = record { steps = omega arith; dropped = omega arith } }

@@ -9,6 +9,8 @@ use Rattle.rules.specs.Kinds.{Nothing, is_opener}
 use Rattle.rules.proofs.Text.{decide}
 use Rattle.token.specs.Codes.{state_meant, if_opener}
 use Rattle.token.specs.declared.State.{State as StateCode}
+use Rattle.lexer.specs.declared.Cursor.{Cursor}
+use Rattle.lexer.specs.Cursor.{start}
 use Rattle.lexer.specs.Memory.{TopState}
 use Rattle.sublexers.specs.Outcome.{innermost_of}
 
@@ -31,3 +33,7 @@ opened-code r k e = decide (is_opener k) (λ o. rw (meant-code r, e, o)) (λ o. 
 pub nothing-open : (ks : List ℕ) → TopState 0 ks None
 unfolding state_meant
 nothing-open ks = refl
+
+-- A cursor of zeros stands at a text's start
+pub at-start : {c : Cursor} → (c.at ≡ 0) × ((c.depth ≡ 0) × ((c.lexemes ≡ 0) × ((c.spaces ≡ 0) × ((c.dropped ≡ 0) × (c.deepest ≡ 0))))) → c ≡ start
+at-start z = rw (z.0, z.1.0, z.1.1.0, z.1.1.1.0, z.1.1.1.1.0, z.1.1.1.1.1) refl

@@ -1,5 +1,5 @@
--- The loop of `run`: where it stands (`Running`), that a lexeme takes it further, and that each way out says what `Runs` promises.
-use Rattle.std.specs.Prelude.{Option as CodeOption, Result, Err, Ok}
+-- The loop of `run_in`: where it stands (`Running`), that a lexeme takes it further, and that each way out says what `Runs` promises.
+use Rattle.std.specs.Prelude.{Option as CodeOption, Some, Result, Err, Ok}
 use Prim.Native.Nat.{ℕ, suc, ◌+◌, ◌-◌, ◌≤◌, ◌<◌, ◌^◌}
 use mathlib.Core.Path.{◌≡◌, refl, sym, ap, ◌∙◌}
 use mathlib.Core.List.{List}
@@ -282,11 +282,11 @@ module _ {w : Course} {from now : State} {top : CodeOption StateCode} (s : Runni
 
 -- whitespace behind a lexeme, in the same turn
 module _ {w : Course} {from now : State} {top : CodeOption StateCode} (s : Running w from now top) {at : ℕ} (here : now.cur.at ≡ at) where
-  pub space-behind : {b : Behind} {e : ℕ} (m : Mode) → m ≡ mode_of top → b ≡ SpaceBehind e → b ≡ behind_of w.text at w.stop m.stop → Ahead w.text at w.stop top Space e
-  space-behind m kept p q = space-ahead w.text at w.stop top s.before p (rw kept at q)
+  pub space-behind : {b : CodeOption Behind} {l : Behind} {e : ℕ} (m : Mode) → m ≡ mode_of top → b ≡ Some l → l ≡ SpaceBehind e → b ≡ behind_of w.text at w.stop m.stop → Ahead w.text at w.stop top Space e
+  space-behind m kept p f q = space-ahead w.text at w.stop top s.before (rw f at p) (rw kept at q)
 
-  pub blank-behind : {b : Behind} {e : ℕ} (m : Mode) → m ≡ mode_of top → b ≡ BlankBehind e → b ≡ behind_of w.text at w.stop m.stop → Ahead w.text at w.stop top Blank e
-  blank-behind m kept p q = blank-ahead w.text at w.stop top s.before p (rw kept at q)
+  pub blank-behind : {b : CodeOption Behind} {l : Behind} {e : ℕ} (m : Mode) → m ≡ mode_of top → b ≡ Some l → l ≡ BlankBehind e → b ≡ behind_of w.text at w.stop m.stop → Ahead w.text at w.stop top Blank e
+  blank-behind m kept p f q = blank-ahead w.text at w.stop top s.before (rw f at p) (rw kept at q)
 
   module _ {k e : ℕ} (a : Ahead w.text at w.stop top k e) where
     pub ahead_before : now.cur.at < w.stop

@@ -4,18 +4,18 @@ use native.Mathlib.Omega.{arith}
 use native.Mathlib.Nat.{add-zero}
 use mathlib.Core.Path.{◌≡◌, refl, sym, ap, ◌∙◌}
 use mathlib.Core.List.{List, [], ◌∷◌}
-use mathlib.Core.Bool.{Bool, true, false, cond, not, ◌&&◌}
+use mathlib.Core.Bool.{Bool, true, false, cond, ◌&&◌}
 use mathlib.Core.Option.{Option, none, some}
-use lib.Dec.{leb, ltb, eqb}
+use lib.Dec.{leb, ltb}
 use lib.ListN.{length, drop, length-drop}
 use borrow.Author.Tests.{le-ltb, le-leb, lt-leb, ltb-false, leb-false}
 use Rattle.rules.specs.Reasons.{number_of}
-use Rattle.rules.specs.Refusals.{AnotherDue, UnclosedFormat, StackFull, WrongForm}
+use Rattle.rules.specs.Refusals.{StackFull, WrongForm}
 use Rattle.rules.specs.Spans.{Span, span, limit}
 use Rattle.rules.specs.Answers.{Answer, given, refused, refuse, Refusal, Verdict}
-use Rattle.rules.specs.Kinds.{Nothing, between, is_opener}
+use Rattle.rules.specs.Kinds.{is_opener}
 use Rattle.rules.specs.Step.{Step, found, stop, step}
-use Rattle.rules.specs.Lent.{Lexeme, lexeme, Arrays, array_places, Lent, lent}
+use Rattle.rules.specs.Lent.{Lexeme, lexeme, Arrays, array_places, contents, Lent, lent}
 use Rattle.rules.specs.Lexing.{stopped, at_end, innermost, depth_after, note_of, verdict_of}
 use Rattle.rules.specs.Walker.{nothing, kept_refusal, Walker, Walked, walking, walked_fresh, walked_at, walked_step, walked_end, goes, opener_put, open_in, codes_of, is_misplaced}
 use Rattle.rules.proofs.Text.{decide}
@@ -24,17 +24,14 @@ use Rattle.lexer.specs.declared.Cursor.{Cursor}
 use Rattle.sublexers.specs.declared.Fault.{Fault}
 use Rattle.lexer.specs.declared.Stepped.{Stepped}
 use Rattle.sublexers.specs.Outcome.{lexeme_to, refused_at, outcome}
-use Rattle.list.specs.Entries.{put_in}
+use Rattle.list.specs.Entries.{put_in, first_of}
 use Rattle.list.proofs.Entries.{put-there}
 use Rattle.lexer.specs.Going.{innermost_in, put_if}
-use Rattle.lexer.specs.Stepping.{step_answer, walker_at, Walks, Moved, moved, moved_meant, moved_of, top_of, note_by, end_by, found_by, refused_by, step_by, moved_by, stack_by, CanStep}
+use Rattle.lexer.specs.Stepping.{step_answer, walker_at, Walks, Moved, moved, moved_meant, moved_of, no_opener, nothing_if, found_by, refused_by, step_by, open_to, moved_by, stack_by, CanStep}
+use Rattle.lexer.specs.Memory.{opener_in, end_by}
 use Rattle.lexer.proofs.Loop.{outcome-found, Stop, outcome-stop, unclosed-noted}
 use Rattle.lexer.proofs.Single.{RefusedOnce, by_text, by_stack}
-use Rattle.lexer.proofs.Openers.{some-open, open-suc, innermost-top, innermost-here, misplaced-top, none_of}
-
--- where something is open, a refusal notes the first
-note-same : (number d : ℕ) (l : Lexeme) (ls : List Lexeme) → note_of number (l ∷ ls) ≡ note_by number (suc d) l
-note-same number d l ls = rw (some-open d)
+use Rattle.lexer.proofs.Openers.{opener-suc, open-suc, innermost-top, innermost-here, misplaced-top, none_of}
 
 module _ (doc at : ℕ) (text : List ℕ) (stack : Arrays) where
   -- a walker that keeps nothing
@@ -42,29 +39,28 @@ module _ (doc at : ℕ) (text : List ℕ) (stack : Arrays) where
   fresh depth = walker_at doc at depth nothing
 
   step_same : (depth : ℕ) → depth ≤ array_places stack → (st : Step) →
-      moved_of (walked_step text (fresh depth) stack st) ≡ step_by doc at depth (array_places stack) (top_of depth stack) st
+      moved_of (walked_step text (fresh depth) stack st) ≡ step_by doc at depth (array_places stack) (opener_in depth stack) st
   unfolding verdict_of
   step_same depth le (found k n) = decide (is_opener k && leb (array_places stack) depth) (λ e. rw e) (λ e. rw e)
   step_same zero le (stop number from n) = refl
-  step_same (suc d) le (stop number from n) =
-      ap (λ (o : Option Span). moved (refused (record { number = number; at = span doc (at + from) (at + from + n); note = o })) at (suc d))
-      (ap (λ (ls : List Lexeme). note_of number ls) (open-suc d stack le) ∙ note-same number d (top_of (suc d) stack) (open_in stack d))
+  step_same (suc d) le (stop number from n) = rw (open-suc d stack le, opener-suc d stack) refl
 
   end-open : (d : ℕ) (l : Lexeme) (ls : List Lexeme) →
-      moved_of (walked_end text (fresh (suc d)) stack (verdict_of doc at (l ∷ ls) (at_end (codes_of (l ∷ ls))))) ≡ moved (end_by (span doc at at) (suc d) l) at (suc d)
+      moved_of (walked_end text (fresh (suc d)) stack (verdict_of doc at (l ∷ ls) (at_end (codes_of (l ∷ ls))))) ≡ moved (nothing_if (end_by (span doc at at) (l ∷ []))) at (suc d)
   unfolding verdict_of
-  end-open d l ls = rw (some-open d, unclosed-noted l.kind) (simp add-zero)
+  end-open d l ls = rw (unclosed-noted l.kind) (simp add-zero)
 
   end_same : (depth : ℕ) → depth ≤ array_places stack →
-      moved_of (walked_at text (fresh depth) stack []) ≡ moved (end_by (span doc at at) depth (top_of depth stack)) at depth
+      moved_of (walked_at text (fresh depth) stack []) ≡ moved (nothing_if (end_by (span doc at at) (opener_in depth stack))) at depth
   unfolding verdict_of
   end_same zero le = refl
   end_same (suc d) le =
       ap (λ (ls : List Lexeme). moved_of (walked_end text (fresh (suc d)) stack (verdict_of doc at ls (at_end (codes_of ls))))) (open-suc d stack le)
-      ∙ end-open d (top_of (suc d) stack) (open_in stack d)
+      ∙ end-open d (first_of (drop d (contents stack))) (open_in stack d)
+      ∙ rw (opener-suc d stack) refl
 
-  rest-same : (depth : ℕ) → depth ≤ array_places stack → not (eqb depth 0) && not (is_opener (top_of depth stack).kind) ≡ false →
-      (s : List ℕ) → drop at text ≡ s → moved_of (walked_at text (fresh depth) stack s) ≡ moved_by doc text at depth (array_places stack) (top_of depth stack)
+  rest-same : (depth : ℕ) → depth ≤ array_places stack → no_opener (opener_in depth stack) ≡ false →
+      (s : List ℕ) → drop at text ≡ s → moved_of (walked_at text (fresh depth) stack s) ≡ moved_by doc text at depth (array_places stack) (opener_in depth stack)
   unfolding moved_by
   rest-same depth le o [] e =
       let over : length text ≤ at = omega (arith, length-drop at text, ap (λ (l : List ℕ). length l) e) in
@@ -83,22 +79,22 @@ module _ (doc at : ℕ) (text : List ℕ) (stack : Arrays) where
 
   -- past 2 and 40 a step is one by the innermost opener
   pub walking_on : (depth : ℕ) → length text ≤ limit → is_misplaced text (fresh depth) stack ≡ false →
-      moved_of (walking text (fresh depth) stack) ≡ moved_by doc text at depth (array_places stack) (top_of depth stack)
+      moved_of (walking text (fresh depth) stack) ≡ moved_by doc text at depth (array_places stack) (opener_in depth stack)
   unfolding walking
   walking_on depth small e =
-      let three = none_of (ltb (length text) at) (ltb (array_places stack) depth) (not (eqb depth 0) && not (is_opener (top_of depth stack).kind)) (sym (misplaced-top text (fresh depth) stack) ∙ e) in
+      let three = none_of (ltb (length text) at) (ltb (array_places stack) depth) (no_opener (opener_in depth stack)) (sym (misplaced-top text (fresh depth) stack) ∙ e) in
       rw (le-ltb limit (length text) small, e) (rest-same depth (ltb-false (array_places stack) depth three.1) three.2 (drop at text) refl)
 
   -- and stands in the text or at its end
   pub walking-inside : (depth : ℕ) → is_misplaced text (fresh depth) stack ≡ false → at ≤ length text
   walking-inside depth e =
-      let three = none_of (ltb (length text) at) (ltb (array_places stack) depth) (not (eqb depth 0) && not (is_opener (top_of depth stack).kind)) (sym (misplaced-top text (fresh depth) stack) ∙ e) in
+      let three = none_of (ltb (length text) at) (ltb (array_places stack) depth) (no_opener (opener_in depth stack)) (sym (misplaced-top text (fresh depth) stack) ∙ e) in
       ltb-false (length text) at three.0
 
   -- what is open stands in the stack
   pub walking-shallow : (depth : ℕ) → is_misplaced text (fresh depth) stack ≡ false → depth ≤ array_places stack
   walking-shallow depth e =
-      let three = none_of (ltb (length text) at) (ltb (array_places stack) depth) (not (eqb depth 0) && not (is_opener (top_of depth stack).kind)) (sym (misplaced-top text (fresh depth) stack) ∙ e) in
+      let three = none_of (ltb (length text) at) (ltb (array_places stack) depth) (no_opener (opener_in depth stack)) (sym (misplaced-top text (fresh depth) stack) ∙ e) in
       ltb-false (array_places stack) depth three.1
 
 -- what a step writes is told by its answer
@@ -148,8 +144,9 @@ still-stack (given (some l)) depth stack s = absurd s
 still-stack (given none) depth stack s = refl
 still-stack (refused r) depth stack s = refl
 
-pub end-still : (at : Span) (depth : ℕ) (top : Lexeme) → Still (end_by at depth top)
-end-still at depth top = decide (eqb depth 0) (λ e. rw e tt) (λ e. rw e tt)
+pub end-still : (at : Span) (openers : List Lexeme) → Still (nothing_if (end_by at openers))
+end-still at [] = tt
+end-still at (l ∷ openers) = tt
 
 -- a step that moves as the rule does and leaves the stack that its answer says is the rule's
 module _ (doc at depth : ℕ) (text : List ℕ) (stack : Arrays) (r : Stepped) where
@@ -169,9 +166,9 @@ module _ (doc at depth : ℕ) (text : List ℕ) (stack : Arrays) (r : Stepped) w
   stays_by same still = walks-by same (still-stack (step_answer r.answer) depth stack still)
 
 -- a step in the text
-module _ (doc : ℕ) {at depth : ℕ} {text : List ℕ} {top : Lexeme} {stack : Arrays} (can : CanStep text at depth top stack) where
+module _ (doc : ℕ) {at depth : ℕ} {text : List ℕ} {openers : List Lexeme} {stack : Arrays} (can : CanStep text at depth openers stack) where
   abbrev here : Step
-  here = step (cond (is_opener top.kind) top.kind Nothing) (drop at text)
+  here = step (open_to openers) (drop at text)
 
   left : 0 < length (drop at text)
   left = omega (arith, length-drop at text, can.inside)
@@ -181,7 +178,7 @@ module _ (doc : ℕ) {at depth : ℕ} {text : List ℕ} {top : Lexeme} {stack : 
   due-here = rw can.innermost (ap (λ (k : ℕ). outcome at (step k (drop at text))) (innermost-here depth stack can.shallow))
 
   -- the walker moves by the step
-  moved_here : moved_by doc text at depth (array_places stack) top ≡ step_by doc at depth (array_places stack) top here
+  moved_here : moved_by doc text at depth (array_places stack) openers ≡ step_by doc at depth (array_places stack) openers here
   unfolding moved_by
   moved_here = rw (lt-leb (length text) at can.inside)
 
@@ -191,19 +188,19 @@ module _ (doc : ℕ) {at depth : ℕ} {text : List ℕ} {top : Lexeme} {stack : 
 
     pub found-small : e < 2 ^ 48
     found-small =
-        let i = found_inside (cond (is_opener top.kind) top.kind Nothing) (drop at text) k sized.0 left sized.1 in
+        let i = found_inside (open_to openers) (drop at text) k sized.0 left sized.1 in
         omega (arith, length-drop at text, sized.2, i.1, can.inside, can.small)
 
-    by-found : moved_by doc text at depth (array_places stack) top ≡ found_by (lexeme k (span doc at e)) e at depth (array_places stack)
+    by-found : moved_by doc text at depth (array_places stack) openers ≡ found_by (lexeme k (span doc at e)) e at depth (array_places stack)
     by-found =
         moved_here
-        ∙ ap (λ (s : Step). step_by doc at depth (array_places stack) top s) sized.1
+        ∙ ap (λ (s : Step). step_by doc at depth (array_places stack) openers s) sized.1
         ∙ ap (λ (j : ℕ). found_by (lexeme k (span doc at j)) j at depth (array_places stack)) (sym sized.2)
 
-    pub found-on : is_opener k && leb (array_places stack) depth ≡ false → moved (given (some (lexeme k (span doc at e)))) e (depth_after depth k) ≡ moved_by doc text at depth (array_places stack) top
+    pub found-on : is_opener k && leb (array_places stack) depth ≡ false → moved (given (some (lexeme k (span doc at e)))) e (depth_after depth k) ≡ moved_by doc text at depth (array_places stack) openers
     found-on room = sym (by-found ∙ rw room)
 
-    pub full-on : is_opener k && leb (array_places stack) depth ≡ true → moved (refuse StackFull (span doc at e)) at depth ≡ moved_by doc text at depth (array_places stack) top
+    pub full-on : is_opener k && leb (array_places stack) depth ≡ true → moved (refuse StackFull (span doc at e)) at depth ≡ moved_by doc text at depth (array_places stack) openers
     full-on room = sym (by-found ∙ rw room)
 
   module _ (f : Fault) (q : refused_at (number_of f.reason) f.start f.end ≡ outcome at (step (innermost_in depth stack.kinds) (drop at text))) where
@@ -212,14 +209,14 @@ module _ (doc : ℕ) {at depth : ℕ} {text : List ℕ} {top : Lexeme} {stack : 
 
     stop-small : (f.start < 2 ^ 48) × (f.end < 2 ^ 48)
     stop-small =
-        let i = stop-inside (cond (is_opener top.kind) top.kind Nothing) (drop at text) (number_of f.reason) stops.from stops.size left stops.is in
+        let i = stop-inside (open_to openers) (drop at text) (number_of f.reason) stops.from stops.size left stops.is in
         (omega (arith, length-drop at text, stops.starts, i, can.inside, can.small), omega (arith, length-drop at text, stops.ends, i, can.inside, can.small))
 
-    stop-on : moved (refused_by (span doc f.start f.end) (number_of f.reason) depth top) at depth ≡ moved_by doc text at depth (array_places stack) top
+    stop-on : moved (refused_by (span doc f.start f.end) (number_of f.reason) openers) at depth ≡ moved_by doc text at depth (array_places stack) openers
     stop-on =
-        ap (λ (i : ℕ). moved (refused_by (span doc i f.end) (number_of f.reason) depth top) at depth) stops.starts
-        ∙ ap (λ (j : ℕ). moved (refused_by (span doc (at + stops.from) j) (number_of f.reason) depth top) at depth) stops.ends
-        ∙ ap (λ (s : Step). step_by doc at depth (array_places stack) top s) (sym stops.is)
+        ap (λ (i : ℕ). moved (refused_by (span doc i f.end) (number_of f.reason) openers) at depth) stops.starts
+        ∙ ap (λ (j : ℕ). moved (refused_by (span doc (at + stops.from) j) (number_of f.reason) openers) at depth) stops.ends
+        ∙ ap (λ (s : Step). step_by doc at depth (array_places stack) openers s) (sym stops.is)
         ∙ sym moved_here
 
   -- a step that was refused, by the text or for want of room on the stack
@@ -228,14 +225,15 @@ module _ (doc : ℕ) {at depth : ℕ} {text : List ℕ} {top : Lexeme} {stack : 
     refused-small (by_text q) = stop-small f (rw (a, d) at q)
     refused-small (by_stack k q full number start) = (omega (arith, start, a, can.inside, can.small), found-small k f.end (rw (a, d) at q))
 
-    pub refused-on : RefusedOnce doc text from list (lent stack.kinds stack.words) f → moved (refused_by (span doc f.start f.end) (number_of f.reason) depth top) at depth ≡ moved_by doc text at depth (array_places stack) top
+    pub refused-on : RefusedOnce doc text from list (lent stack.kinds stack.words) f → moved (refused_by (span doc f.start f.end) (number_of f.reason) openers) at depth ≡ moved_by doc text at depth (array_places stack) openers
     refused-on (by_text q) = stop-on f (rw (a, d) at q)
     refused-on (by_stack k q full number start) =
         let s : f.start ≡ at = start ∙ a in
-        rw (number, s) (rw (unnoted depth) (full-on k f.end (rw (a, d) at q) (rw d at full)))
+        rw (number, s) (rw (unnoted openers) (full-on k f.end (rw (a, d) at q) (rw d at full)))
       where
-        unnoted : (depth : ℕ) → not (eqb depth 0) && between AnotherDue UnclosedFormat StackFull ≡ false
-        unnoted depth = decide (eqb depth 0) (λ e. rw e) (λ e. rw e)
+        unnoted : (os : List Lexeme) → note_of StackFull os ≡ none
+        unnoted [] = refl
+        unnoted (l ∷ os) = refl
 
 -- what a turn of the loop puts on the stack, by its arrays
 pub put-arrays : (b : Bool) (place : ℕ) (l : Lexeme) (m : Lent) → (put_if b place l m).arrays ≡ cond b (put_in place l m.arrays) m.arrays

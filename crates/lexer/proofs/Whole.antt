@@ -9,7 +9,6 @@ use mathlib.Core.Option.{none}
 use native.Mathlib.Nat.{zero-add}
 use native.Mathlib.Omega.{arith}
 use lib.ListN.{length, drop, length-drop}
-use Rattle.rules.specs.Reasons.{number_of}
 use Rattle.rules.specs.Utf8.{first_bad}
 use Rattle.rules.specs.Kinds.{Space}
 use Rattle.rules.specs.Step.{step, found}
@@ -22,7 +21,8 @@ use Rattle.lexer.specs.declared.Lexed.{Lexed}
 use Rattle.token.specs.declared.Token.{Token}
 use Rattle.lexer.specs.Cursor.{start}
 use Rattle.lexer.specs.Going.{State, state_at, Course, course_of, Steps, Goes, stay, on}
-use Rattle.lexer.specs.Results.{lexed_meant, refused_with, verdict_at, note_at, CanStop, CanFinish}
+use Rattle.lexer.specs.Results.{lexed_meant, refused_with, verdict_at, CanStop, CanFinish}
+use Rattle.lexer.specs.Memory.{opener_in}
 use Rattle.lexer.specs.Running.{Refuses, by_text, by_room, RunsBy, reached, halted}
 use Rattle.lexer.proofs.Standing.{Standing, standing-start, codes}
 use Rattle.lexer.proofs.Loop.{standing-innermost, can-stop, can-finish, stop-out, stop-small, end-out, full-out, goes_on, took, took-small}
@@ -65,12 +65,12 @@ module _ (doc : ℕ) (text : List ℕ) (list₀ stack₀ : Lent) {stop : ℕ} {e
 
 module _ (doc : ℕ) (text : List ℕ) (list stack list' stack' : Lent) where
   pub record WholeHalted (c : Cursor) (f : Fault) : Type 0 where
-    pub stops : CanStop f c stack'.arrays.words
-    pub refused : (r : Lexed) → lexed_meant r ≡ refused_with doc f c (note_at (number_of f.reason) c.depth stack'.arrays.words) → Lexes doc text list stack (lexed_meant r) list' stack'
+    pub stops : CanStop f c
+    pub refused : (r : Lexed) → lexed_meant r ≡ refused_with doc f c (opener_in c.depth stack'.arrays) → Lexes doc text list stack (lexed_meant r) list' stack'
 
   pub record WholeReached (c : Cursor) : Type 0 where
-    pub finishes : CanFinish c stack'.arrays.kinds stack'.arrays.words
-    pub ended : (r : Lexed) → lexed_meant r ≡ verdict_at doc c stack'.arrays.kinds stack'.arrays.words → Lexes doc text list stack (lexed_meant r) list' stack'
+    pub finishes : CanFinish c
+    pub ended : (r : Lexed) → lexed_meant r ≡ verdict_at doc c (opener_in c.depth stack'.arrays) → Lexes doc text list stack (lexed_meant r) list' stack'
 
   abbrev pub WholeBy : Cursor → Result Token Fault → Type 0
   WholeBy c (Err f) = WholeHalted c f

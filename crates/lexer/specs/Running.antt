@@ -1,5 +1,5 @@
 -- Steps from a cursor on, up to a position or a kind: what the loop needs, and what it says of its end.
-use Rattle.std.specs.Prelude.{ℕ, ◌+◌, ◌≤◌, ◌<◌, ◌^◌, ◌≡◌, true, false, cond, not, ◌||◌, List, ◌⊎◌, eqb, leb, length, drop, Option, Result, Ok, Err}
+use Rattle.std.specs.Prelude.{ℕ, ◌+◌, ◌≤◌, ◌<◌, ◌^◌, ◌≡◌, true, false, cond, not, ◌||◌, List, ◌⊎◌, eqb, leb, length, drop, Option as CodeOption, Some, None, Result, Ok, Err}
 use Rattle.rules.specs.Measuring.{measured}
 use Rattle.rules.specs.Step.{step}
 use Rattle.token.specs.Codes.{code_of}
@@ -13,13 +13,13 @@ use Rattle.lexer.specs.Going.{State, state_at, stack_codes, Course, innermost_in
 use Rattle.lexer.specs.Memory.{TopState}
 use Rattle.sublexers.specs.Outcome.{Outcome, lexeme_to, refused_at, outcome}
 use Rattle.lexer.specs.declared.Behind.{Behind}
-use Rattle.lexer.specs.declared.Behind.TheVariants.{Nothing as NoneBehind, Space as SpaceBehind, Blank as BlankBehind}
+use Rattle.lexer.specs.declared.Behind.TheVariants.{Space as SpaceBehind, Blank as BlankBehind}
 use Rattle.lexer.specs.declared.Cursor.{Cursor}
 use Rattle.sublexers.specs.declared.Fault.{Fault}
 use Rattle.lexer.specs.declared.Ran.{Ran}
 
 -- the position and what is open lie inside what is lent, with this innermost; no count can overflow
-pub record CanRun (w : Course) (s : State) (top : Option StateCode) : Type 0 where
+pub record CanRun (w : Course) (s : State) (top : CodeOption StateCode) : Type 0 where
   pub small : w.shift + length w.text < 2 ^ 48
   pub before : w.stop ≤ length w.text
   pub inside : s.cur.at ≤ length w.text
@@ -35,12 +35,12 @@ abbrev pub ran_full : Cursor → (at end : ℕ) → Reason → Ran
 ran_full c at end reason = record { cursor = c; end = Err (record { end = end; reason = reason; start = at }) }
 
 -- the whitespace at a position behind a lexeme, outside strings and before `stop`: a Space or a Blank, and where it ends. The byte is that which ends an inner part, 0 outside strings.
-abbrev pub behind_of : List ℕ → (at stop byte : ℕ) → Behind
+abbrev pub behind_of : List ℕ → (at stop byte : ℕ) → CodeOption Behind
 behind_of text at stop byte =
     let run = measured (drop at text) in
-    cond (not (eqb byte 0) || leb stop at) NoneBehind (
-    cond (eqb run.length 0) NoneBehind (
-    cond (leb 2 run.lines) (BlankBehind (at + run.length)) (SpaceBehind (at + run.length))))
+    cond (not (eqb byte 0) || leb stop at) None (
+    cond (eqb run.length 0) None (
+    cond (leb 2 run.lines) (Some (BlankBehind (at + run.length))) (Some (SpaceBehind (at + run.length)))))
 
 -- the rules' step where a run stands
 abbrev pub due_at : Course → State → Outcome

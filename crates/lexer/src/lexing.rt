@@ -3,24 +3,23 @@
 // Licensed under the Apache License, Version 2.0 (the "License"): see NOTICE.
 // From src/lexer.rs of RCL, changed: lexemes and openers go to lent arrays, steps and bytes are counted, and an error is a numbered refusal.
 
-// Lexing a text into a lent list, with a lent stack. The loop stands in a function of its own, `run`, which is the one place where steps are taken: the optimiser then puts the whole
+// Lexing a text into a lent list, with a lent stack. The loop stands in a function of its own, `run_in`, which is the one place where steps are taken: the optimiser then puts the whole
 // step into the loop.
-ghost use Rattle.std.specs.Prelude.{◌≡◌, ◌*◌, ◌≤◌, length, true, false};
+ghost use Rattle.std.specs.Prelude.{◌≡◌, true, false};
 ghost use Rattle.rules.specs.Kinds.{Space, is_space, is_opener, is_closer};
-ghost use Rattle.rules.specs.Reasons.{number_of};
 ghost use Rattle.rules.specs.Lent.{lent};
 ghost use Rattle.rules.specs.Lexing.{Lexes};
-ghost use Rattle.source.specs.Meaning.{note_meant};
-ghost use Rattle.list.specs.Entries.{lent_in, SameArrays};
+ghost use Rattle.list.specs.Entries.{list_meant, lent_in, SameArrays};
+ghost use Rattle.lexer.specs.Memory.{opener_in};
 ghost use Rattle.lexer.specs.Cursor.{advance_of};
-ghost use Rattle.lexer.specs.Results.{lexed_meant, lexed_at, refused_with, refused_by, CanAdvance, CanReport, CanStop, CanFinish, note_at, verdict_at};
+ghost use Rattle.lexer.specs.Results.{lexed_meant, lexed_at, refused_with, refused_by, CanAdvance, CanReport, CanStop, CanFinish, verdict_at};
 ghost use Rattle.lexer.specs.Going.{room_of, ends_after, course_of, state_at};
 ghost use Rattle.lexer.specs.Running.{CanRun, Runs, behind_of, ran_full};
 
-use crate::{Behind, Cursor, Lexed, Mode, Ran, START, lent, next, pack};
+use crate::{Behind, Cursor, Lexed, Mode, Ran, lent, next, pack};
 use list::{Entry, List, ListMut};
 use rules::{Reason, kind};
-use source::{Refusal, Span};
+use source::Refusal;
 use sublexers::{Fault, Step};
 use token::{State, Token};
 
@@ -98,45 +97,23 @@ fn result(answer: Result<(), Refusal>, cur: Cursor) -> Lexed
     }
 }
 
-// Of the steps' refusals only 24 has a note: the opener.
-fn note_of(reason: Reason, depth: usize, stack: List<'_>) -> Option<Span>
-    requires { depth * 2 ≤ length stack.words.now }
-    ensures { note_meant result ≡ note_at (number_of reason) depth stack.entry.words.now }
-{
-    if reason == Reason::AnotherDue && 0 < depth {
-        return Some(lent::opener(stack.words, depth));
-    }
-    None
-}
-
 // The result where a step was refused.
 fn stopped(doc: u32, fault: Fault, cur: Cursor, stack: List<'_>) -> Lexed
-    requires { CanStop fault cur stack.words.now }
-    ensures { lexed_meant result ≡ refused_with doc fault cur (note_at (number_of fault.reason) cur.depth stack.entry.words.now) }
+    requires { CanStop fault cur }
+    ensures { lexed_meant result ≡ refused_with doc fault cur (opener_in cur.depth (list_meant stack.entry)) }
 {
-    let refusal = Refusal {
-        reason: fault.reason,
-        at: pack(doc, fault.start, fault.end),
-        note: note_of(fault.reason, cur.depth, stack),
-    };
-    result(Err(refusal), cur)
+    let opener = lent::top(stack, cur.depth);
+    result(Err(lent::refusal(doc, fault, opener)), cur)
 }
 
 // The result where the end of the text is reached.
 fn report_unclosed_delimiters(doc: u32, cur: Cursor, stack: List<'_>) -> Lexed
-    requires { CanFinish cur stack.kinds.now stack.words.now }
-    ensures { lexed_meant result ≡ verdict_at doc cur stack.entry.kinds.now stack.entry.words.now }
+    requires { CanFinish cur }
+    ensures { lexed_meant result ≡ verdict_at doc cur (opener_in cur.depth (list_meant stack.entry)) }
 {
-    let depth = cur.depth;
-    if depth == 0 {
-        return result(Ok(()), cur);
-    }
-    let refusal = Refusal {
-        reason: token::unclosed(stack.kinds[depth - 1]),
-        at: pack(doc, cur.at, cur.at),
-        note: Some(lent::opener(stack.words, depth)),
-    };
-    result(Err(refusal), cur)
+    let at = pack(doc, cur.at, cur.at);
+    let opener = lent::top(stack, cur.depth);
+    result(lent::at_end(at, opener), cur)
 }
 
 // The steps end at a step that was refused.
@@ -164,22 +141,22 @@ fn no_room(cur: Cursor, at: usize, end: usize, reason: Reason) -> Ran
 }
 
 // The whitespace at `at`, behind a lexeme: outside strings and before `stop` it is the next step, and goes with the lexeme in the same turn of the loop.
-fn behind(text: &[u8], at: usize, stop: usize, mode: Mode) -> Behind
+fn behind(text: &[u8], at: usize, stop: usize, mode: Mode) -> Option<Behind>
     ensures { result ≡ behind_of text.now at stop mode.stop }
 {
     if (mode.stop != 0) | (stop <= at) {
-        return Behind::Nothing;
+        return None;
     }
     let run = scan::whitespace_behind(text, at);
     let length = run.length;
     if length == 0 {
-        return Behind::Nothing;
+        return None;
     }
     let end = at + length;
     if sublexers::is_blank(run.lines) {
-        return Behind::Blank(end);
+        return Some(Behind::Blank(end));
     }
-    Behind::Space(end)
+    Some(Behind::Space(end))
 }
 
 // The places of the list; where none is kept, more than any text has lexemes.
@@ -202,8 +179,10 @@ fn ends_after(to_format: bool, kind: u8) -> bool
 
 // Takes steps from a cursor on, where `top` is innermost, while it stands before `stop`: one step where `stop` is the next position, all of them where it is the text's end. With `to_format` the steps
 // end after a format string's opener too. Positions are the text's; spans are moved by `shift`. Where nothing is `listed` the list has no end, and its arrays no places. The mode is kept beside the
-// cursor, so that the stack is read after a closer alone. Kept: the four arrays one by one, since behind structs that are lent they are looked up again at each write. Always inlined in `run`: apart from it the loop takes 6 % more time on ASCII and varied notes, and 3 % less on the move table.
-#[inline(always)]
+// cursor, so that the stack is read after a closer alone. Kept: what is given one by one. With a struct of doc, shift, text, stop and the two tests lexing takes 2 to 5 % more time, since the loop then does not
+// know what is constant at its callers; and behind structs that are lent the four arrays are looked up again at each write.
+// Kept: `shift`, `listed` and `to_format` as they are, though `run` gives the same three today: a wrong program of each is refused, and that stays. An `Option` of the list is no plainer, since 30 and 31 count the places of none as well;
+// and a closure in place of `to_format` would have a contract that says again which kinds end the steps.
 fn run_in(
     doc: u32,
     shift: usize,
@@ -276,12 +255,12 @@ fn run_in(
                     cur = cur.past_other(kind, end);
                     let space = behind(text, end, stop, mode);
                     match space {
-                        Behind::Nothing => {}
-                        Behind::Space(after) => {
+                        None => {}
+                        Some(Behind::Space(after)) => {
                             cur = cur.past_space(after);
                             token = Token::Space;
                         }
-                        Behind::Blank(after) => {
+                        Some(Behind::Blank(after)) => {
                             let blank = Entry {
                                 kind: kind::BLANK,
                                 at: pack(doc, shift + end, shift + after),
@@ -305,33 +284,31 @@ fn run_in(
     }
 }
 
-// The same in a lent list and a lent stack.
+// The same in a lent list and a lent stack, for a text that stands alone, to `stop`. Always inlined: the loop takes 6 to 9 % fewer instructions, and up to 4 % less time.
+#[inline(always)]
 pub(crate) fn run(
     doc: u32,
-    shift: usize,
     text: &[u8],
     from: Cursor,
     top: Option<State>,
     stop: usize,
-    listed: bool,
-    to_format: bool,
     list: &mut ListMut<'_>,
     stack: &mut ListMut<'_>,
 ) -> Ran
-    requires { CanRun (course_of doc shift text.now stop listed to_format (lent_in list.old) (lent_in stack.old)) (state_at from Space (lent_in list.old) (lent_in stack.old)) top }
-    ensures runs { Runs (course_of doc shift text.now stop listed to_format (lent_in list.old) (lent_in stack.old)) (state_at from Space (lent_in list.old) (lent_in stack.old)) (lent_in list.new) (lent_in stack.new) result }
+    requires { CanRun (course_of doc 0 text.now stop true false (lent_in list.old) (lent_in stack.old)) (state_at from Space (lent_in list.old) (lent_in stack.old)) top }
+    ensures runs { Runs (course_of doc 0 text.now stop true false (lent_in list.old) (lent_in stack.old)) (state_at from Space (lent_in list.old) (lent_in stack.old)) (lent_in list.new) (lent_in stack.new) result }
     ensures same_list { SameArrays list.old list.new }
     ensures same_stack { SameArrays stack.old stack.new }
 {
     run_in(
         doc,
-        shift,
+        0,
         text,
         from,
         top,
         stop,
-        listed,
-        to_format,
+        true,
+        false,
         list.kinds,
         list.words,
         stack.kinds,
@@ -345,13 +322,14 @@ pub fn lex(doc: u32, text: &[u8], list: &mut ListMut<'_>, stack: &mut ListMut<'_
     ensures same_list { SameArrays list.old list.new }
     ensures same_stack { SameArrays stack.old stack.new }
 {
+    let start = Cursor::default();
     if rules::LIMIT < text.len() {
         let long = Fault {
             end: 0,
             reason: Reason::TooLong,
             start: 0,
         };
-        return stopped(doc, long, START, stack.list());
+        return stopped(doc, long, start, stack.list());
     }
     if let Err(error) = utf8::check(text) {
         let at = error.valid_up_to;
@@ -360,20 +338,9 @@ pub fn lex(doc: u32, text: &[u8], list: &mut ListMut<'_>, stack: &mut ListMut<'_
             reason: Reason::NotUtf8,
             start: at,
         };
-        return stopped(doc, bad, START, stack.list());
+        return stopped(doc, bad, start, stack.list());
     }
-    let ran = run(
-        doc,
-        0,
-        text,
-        START,
-        None,
-        text.len(),
-        true,
-        false,
-        list,
-        stack,
-    );
+    let ran = run(doc, text, start, None, text.len(), list, stack);
     match ran.end {
         Ok(_) => report_unclosed_delimiters(doc, ran.cursor, stack.list()),
         Err(fault) => stopped(doc, fault, ran.cursor, stack.list()),

@@ -31,7 +31,8 @@ pub struct Mode {
 }
 
 // Where the lexer stands, and what it has counted. Steps are lexemes and Spaces; the bytes that were not dropped are kept.
-#[derive(Clone, Copy, Debug, PartialEq, Eq)]
+// Kept: no invariant. What bounds its counts is the text's length, the shift and the stack's places, which it does not hold; `CanAdvance` says it once, for the four that count.
+#[derive(Clone, Copy, Debug, Default, PartialEq, Eq)]
 pub struct Cursor {
     pub at: usize,
     pub depth: usize,
@@ -41,20 +42,9 @@ pub struct Cursor {
     pub deepest: usize,
 }
 
-// At a text's start nothing is counted.
-pub(crate) const START: Cursor = Cursor {
-    at: 0,
-    depth: 0,
-    lexemes: 0,
-    spaces: 0,
-    dropped: 0,
-    deepest: 0,
-};
-
-// The whitespace behind a lexeme, and where it ends.
+// Whitespace behind a lexeme, and where it ends.
 #[derive(Clone, Copy, Debug, PartialEq, Eq)]
 pub enum Behind {
-    Nothing,
     Space(usize),
     Blank(usize),
 }
@@ -102,6 +92,6 @@ pub(crate) fn pack(doc: u32, start: usize, end: usize) -> Span
     let e = end as u64;
     Span {
         low: s + e % 0x1_0000 * 0x1_0000_0000_0000,
-        high: e / 0x1_0000 + (doc as u64) * 0x1_0000_0000,
+        high: e / 0x1_0000 + u64::from(doc) * 0x1_0000_0000,
     }
 }

@@ -44,13 +44,10 @@ fn next_normal(table: &[u8; 256], text: &[u8], at: usize, top: Option<State>) ->
 fn stop_of(top: Option<State>) -> u8
     ensures { result ≡ cond (is_quote_open (innermost_of top)) (stop_of (innermost_of top)) 0 }
 {
-    let Some(state) = top else {
-        return 0;
-    };
-    match state {
-        State::String(_) => b'"',
-        State::Format(_) => b'{',
-        State::Brace | State::Paren | State::Bracket | State::Hole => 0,
+    match top {
+        Some(State::String(_)) => b'"',
+        Some(State::Format(_)) => b'{',
+        _ => 0,
     }
 }
 
@@ -63,7 +60,7 @@ fn triple_of(top: Option<State>) -> bool
     }
 }
 
-// The mode of an innermost opener: it changes only where something opens or closes, so `run` keeps it.
+// The mode of an innermost opener: it changes only where something opens or closes, so `run_in` keeps it.
 pub(crate) fn mode_of(top: Option<State>) -> Mode
     ensures { result ≡ mode_of top }
 {

@@ -7,10 +7,12 @@ use mathlib.Core.List.{List, [], ◌∷◌, ◌++◌}
 use lib.Dec.{ltb}
 use lib.ListN.{length, get_or, take, drop, length-take, drop_of_length-le}
 use borrow.Author.Tests.{lt-ltb}
+use Rattle.std.proofs.lemmas.List.{take_min}
 use Rattle.rules.specs.Spans.{nowhere, span_of}
 use Rattle.rules.specs.Kinds.{Space}
 use Rattle.rules.specs.Lent.{Lexeme, lexeme, Arrays, places_of, array_places, lexemes_in, holding, put_at, UntouchedFrom}
 use Rattle.rules.proofs.Arithmetic.{suc-double, suc-double-one}
+use Rattle.rules.proofs.Listed.{places-length}
 use Rattle.rules.proofs.Lent.{AsLong, same-places, holding-snoc, holding-long, put-long, untouched-put}
 use Rattle.rules.proofs.Text.{decide}
 use Rattle.list.specs.Entries.{first_of, put_in}
@@ -20,6 +22,10 @@ pub first-drop : (ls : List Lexeme) (i : ℕ) → i < length ls → drop i ls �
 first-drop [] i lt = absurd (omega arith)
 first-drop (l ∷ ls) zero lt = refl
 first-drop (l ∷ ls) (suc i) lt = first-drop ls i (omega arith)
+
+-- the same, where the lexeme there is known
+pub place_on : (ls : List Lexeme) (i : ℕ) (l : Lexeme) → i < length ls → l ≡ first_of (drop i ls) → drop i ls ≡ l ∷ drop (i + 1) ls
+place_on ls i l lt e = rw (add-one i, e) (first-drop ls i lt)
 
 -- the lexeme at a place is the same where only the first lexemes are taken, and the place is among them
 pub first_taken : (n : ℕ) (ls : List Lexeme) (i : ℕ) → i < n → first_of (drop i (take n ls)) ≡ first_of (drop i ls)
@@ -46,6 +52,29 @@ lexeme-at (k ∷ ks) [] i lt = absurd (omega arith)
 lexeme-at (k ∷ ks) (l ∷ []) i lt = absurd (omega arith)
 lexeme-at (k ∷ ks) (l ∷ (h ∷ ws)) zero lt = refl
 lexeme-at (k ∷ ks) (l ∷ (h ∷ ws)) (suc i) lt = rw (suc-double-one i, suc-double i) (lexeme-at ks ws i (omega arith))
+
+-- the first places of the arrays hold the first lexemes
+first_places : (n : ℕ) (ks ws : List ℕ) → lexemes_in (take n ks) (take (n * 2) ws) ≡ take n (lexemes_in ks ws)
+first_places zero ks ws = refl
+first_places (suc n) [] ws = refl
+first_places (suc n) (k ∷ ks) [] = rw (suc-double n) refl
+first_places (suc n) (k ∷ ks) (l ∷ []) = rw (suc-double n) refl
+first_places (suc n) (k ∷ ks) (l ∷ (h ∷ ws)) = rw (suc-double n, first_places n ks ws) refl
+
+-- where there are not two words, no entry stands
+pub no_entry : (ks ws : List ℕ) → length ws < 2 → lexemes_in ks ws ≡ []
+no_entry [] ws lt = refl
+no_entry (k ∷ ks) [] lt = refl
+no_entry (k ∷ ks) (l ∷ []) lt = refl
+no_entry (k ∷ ks) (l ∷ (h ∷ ws)) lt = absurd (omega arith)
+
+-- the end of a list with so many entries is within its places
+pub end_inside : (n e : ℕ) (ks ws : List ℕ) → e ≡ length (take n (lexemes_in ks ws)) → e ≤ places_of ks ws
+end_inside n e ks ws h = omega (arith, h, length-take n (lexemes_in ks ws), places-length ks ws)
+
+-- up to there the arrays hold its entries
+pub first_entries : (n e : ℕ) (ks ws : List ℕ) → e ≡ length (take n (lexemes_in ks ws)) → lexemes_in (take e ks) (take (e * 2) ws) ≡ take n (lexemes_in ks ws)
+first_entries n e ks ws h = rw (h, length-take n (lexemes_in ks ws), first_places) (take_min n (lexemes_in ks ws))
 
 -- Putting a lexeme
 -- where there is such a place

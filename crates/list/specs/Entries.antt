@@ -2,15 +2,20 @@
 use Rattle.std.specs.Prelude.{ℕ, cond, ◌≡◌, List, [], ◌∷◌, ltb}
 use Rattle.rules.specs.Spans.{nowhere}
 use Rattle.rules.specs.Kinds.{Space}
-use Rattle.rules.specs.Lent.{Lexeme, lexeme, Arrays, arrays, array_places, put_at, Lent}
+use Rattle.rules.specs.Lent.{Lexeme, lexeme, Arrays, arrays, array_places, contents, put_at, Lent}
 use Rattle.source.specs.Meaning.{span_meant}
 use Rattle.list.specs.declared.Entry.{Entry}
 use Rattle.list.specs.declared.List.{List as CodeList}
 use Rattle.list.specs.declared.ListMut.{ListMut}
+use Rattle.list.specs.declared.Iter.{Iter}
 
 -- the two arrays of a list that is lent to be read
 abbrev pub list_meant : CodeList → Arrays
 list_meant l = arrays l.kinds.now l.words.now
+
+-- the entries that are left to go over
+abbrev pub entries_left : Iter → List Lexeme
+entries_left it = contents (list_meant it.left)
 
 -- and of one that is lent to be filled
 abbrev pub lent_meant : ListMut → Arrays

@@ -2,8 +2,9 @@
 #![tactic(auto)]
 
 ghost use Rattle.std.specs.Prelude.{◌≡◌, ◌<◌, ◌^◌, length, take, drop};
+ghost use Rattle.std.specs.Iterator.{YieldsFirstBy, item_count};
 ghost use Rattle.rules.specs.Lent.{places_of, array_places, contents, arrays};
-ghost use Rattle.list.specs.Entries.{entry_meant, first_of, put_in, list_meant, lent_meant, SameArrays};
+ghost use Rattle.list.specs.Entries.{entry_meant, first_of, put_in, list_meant, entries_left, lent_meant, SameArrays};
 
 use rules::kind;
 use source::Span;
@@ -48,10 +49,11 @@ pub fn put(kinds: &mut [u8], words: &mut [u64], place: usize, entry: Entry)
     words[place * 2 + 1] = entry.at.high;
 }
 
-impl List<'_> {
+impl<'a> List<'a> {
     // How many entries the arrays can hold.
     pub fn places(self) -> usize
         ensures places { result ≡ array_places (list_meant self.entry) }
+        ensures entries { result ≡ length (contents (list_meant self.entry)) }
         ensures small { result < 2 ^ 63 }
     {
         places(self.kinds, self.words)
@@ -62,6 +64,17 @@ impl List<'_> {
         ensures { result ≡ length (take count (contents (list_meant self.entry))) }
     {
         count.min(self.places())
+    }
+
+    // The list of the first entries; of all of them, where there are no more.
+    pub fn first(self, count: usize) -> List<'a>
+        ensures { contents (list_meant result) ≡ take count (contents (list_meant self.entry)) }
+    {
+        let end = self.end(count);
+        List {
+            kinds: &self.kinds[..end],
+            words: &self.words[..end * 2],
+        }
     }
 
     // The entry at a place; past the places, a Space at 0-0.
@@ -82,6 +95,48 @@ impl List<'_> {
                 high: self.words[place * 2 + 1],
             },
         }
+    }
+}
+
+// The entries of a list, one after another.
+#[derive(Drop)]
+pub struct Iter<'a> {
+    left: List<'a>,
+}
+
+impl Iterator for Iter<'_> {
+    type Item = Entry;
+
+    ghost next_gives = { YieldsFirstBy entry_meant entries_left };
+
+    ghost remaining = { item_count entries_left };
+
+    #[tactic(auto, using(crate::proofs::Entries::no_entry))]
+    fn next(&mut self) -> Option<Entry> {
+        let ([kind, kinds @ ..], [low, high, words @ ..]) = (self.left.kinds, self.left.words)
+        else {
+            return None;
+        };
+        self.left = List { kinds, words };
+        Some(Entry {
+            kind: *kind,
+            at: Span {
+                low: *low,
+                high: *high,
+            },
+        })
+    }
+}
+
+impl<'a> IntoIterator for List<'a> {
+    type Item = Entry;
+
+    type IntoIter = Iter<'a>;
+
+    ghost into_iter_gives = { λ list it. entries_left it ≡ contents (list_meant list) };
+
+    fn into_iter(self) -> Iter<'a> {
+        Iter { left: self }
     }
 }
 

@@ -2,5 +2,5 @@
 #![tactic(auto)]
 
 fn main(rt: HostRuntime) {
-    report::print_listing(&mut rt.stdin(), &mut rt.stdout(), &mut rt.stderr());
+    let _ = report::print_listing(&mut rt.stdin(), &mut rt.stdout(), &mut rt.stderr());
 }

@@ -13,23 +13,16 @@ use Rattle.rules.specs.Spans.{nowhere, limit}
 use Rattle.rules.specs.Answers.{accepted, refuse}
 use Rattle.rules.specs.Output.{end_of, overwritten, Piece, written}
 use Rattle.output.specs.declared.Full.{Full}
+use Rattle.output.specs.declared.Output.{Output}
 use Rattle.output.specs.Places.{Put}
 
 -- an output ends within its places
 pub end-within : (out : List ℕ) → end_of out ≤ length out
 end-within out = omega arith
 
--- an output ends at 2^48 − 1 at most
-pub end-limit : (out : List ℕ) → end_of out ≤ limit
-end-limit out = omega arith
-
 -- nothing written over an output leaves it
 pub overwritten-nothing : (out : List ℕ) (at : ℕ) → overwritten out at [] ≡ out
 overwritten-nothing out at = grind (arith, common_steps)
-
--- bytes written over an output leave its length
-pub overwritten-length : (out : List ℕ) (at : ℕ) (w : List ℕ) → at + length w ≤ length out → length (overwritten out at w) ≡ length out
-overwritten-length out at w h = grind (arith, common_steps)
 
 -- bytes written over an output leave its end
 pub end-overwritten : (out : List ℕ) (at : ℕ) (w : List ℕ) → at + length w ≤ length out → end_of (overwritten out at w) ≡ end_of out
@@ -44,13 +37,13 @@ overwritten-two out at v w h =
 -- that, for a piece whose parts are copied one after the other
 pub ruleset two_parts = (common_steps, overwritten-two)
 
--- where a position is answered, the piece fitted, the position is the one behind it, and the output is overwritten with it
-pub put-ok : {w : List ℕ} {at next : ℕ} {out out' : List ℕ} → Put w at out (Ok next) out' → (at + length w ≤ end_of out) × (next ≡ at + length w) × (out' ≡ overwritten out at w)
-put-ok {w} {at} {next} {out} p = grind (arith, common_steps)
+-- a piece that was written fitted, the position is the one behind it, and the output is overwritten with it
+pub put-ok : {w : List ℕ} {o o' : Output} {u : Unit {0}} → Put w o (Ok u) o' → (o.at + length w ≤ end_of o.bytes.now) × (o'.at ≡ o.at + length w) × (o'.bytes.now ≡ overwritten o.bytes.now o.at w)
+put-ok {w} {o} {o'} p = grind (arith, common_steps)
 
--- where none is answered, the piece did not fit, and the output is as it was
-pub put-err : {w : List ℕ} {at : ℕ} {out out' : List ℕ} {e : Full} → Put w at out (Err e) out' → (end_of out < at + length w) × (out' ≡ out)
-put-err {w} {at} {out} p = grind (arith, common_steps)
+-- one that was not did not fit, and position and output are as they were
+pub put-err : {w : List ℕ} {o o' : Output} {e : Full} → Put w o (Err e) o' → (end_of o.bytes.now < o.at + length w) × (o'.at ≡ o.at) × (o'.bytes.now ≡ o.bytes.now)
+put-err {w} {o} {o'} p = grind (arith, common_steps)
 
 -- a chunk that fits, then the others
 pub written-fits : (end at : ℕ) (c : Piece) (cs : List Piece) → at + length c.bytes ≤ end

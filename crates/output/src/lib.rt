@@ -1,7 +1,7 @@
 // Writing to a lent output. "An output ends at 2^48 − 1 bytes at most"; "a piece is written whole or not".
 #![tactic(auto)]
 
-ghost use Rattle.std.specs.Prelude.{◌≡◌, ◌++◌, ◌+◌, cond, leb, length, Ok, Err};
+ghost use Rattle.std.specs.Prelude.{◌≡◌, ◌++◌, ◌+◌, cond, leb, Ok, Err};
 ghost use Rattle.rules.specs.Output.{end_of};
 ghost use Rattle.output.specs.Places.{full, Put};
 
@@ -21,45 +21,51 @@ impl fmt::Display for Full {
 
 impl Error for Full {}
 
-// Where an output ends.
-pub fn end(output: &[u8]) -> usize
-    ensures { result ≡ end_of output.now }
-{
-    output.len().min(LIMIT)
+// A lent output, and the position where writing goes on.
+#[derive(Drop)]
+pub struct Output<'a> {
+    pub bytes: &'a mut [u8],
+    pub at: usize,
 }
 
-// The position behind so many bytes, where they fit before the end of the output.
-pub fn behind(output: &[u8], position: usize, bytes: usize) -> Result<usize, Full>
-    ensures { result ≡ cond (leb (position + bytes) (end_of output.now)) (Ok (position + bytes)) (Err full) }
-{
-    match position.checked_add(bytes) {
-        Some(next) if next <= end(output) => Ok(next),
-        _ => Err(Full),
+impl Output<'_> {
+    // Where it ends.
+    pub fn end(&self) -> usize
+        ensures { result ≡ end_of self.now.bytes.now }
+    {
+        self.bytes.len().min(LIMIT)
     }
-}
 
-// Writes a piece at a position, whole or not: the position behind it.
-pub fn put(piece: &[u8], output: &mut [u8], position: usize) -> Result<usize, Full>
-    ensures { Put piece.now position output.old result output.new }
-{
-    let next = behind(output, position, piece.len())?;
-    output[position..next].copy_from_slice(piece);
-    Ok(next)
-}
+    // The position behind so many bytes, where they fit before its end.
+    fn behind(&self, bytes: usize) -> Result<usize, Full>
+        ensures { result ≡ cond (leb (self.now.at + bytes) (end_of self.now.bytes.now)) (Ok (self.now.at + bytes)) (Err full) }
+    {
+        match self.at.checked_add(bytes) {
+            Some(next) if next <= self.end() => Ok(next),
+            _ => Err(Full),
+        }
+    }
 
-// The same for a piece whose bytes stand in two places.
-#[tactic(auto, using(crate::proofs::Overwritten::two_parts))]
-pub fn put_two(
-    first: &[u8],
-    second: &[u8],
-    output: &mut [u8],
-    position: usize,
-) -> Result<usize, Full>
-    ensures { Put (first.now ++ second.now) position output.old result output.new }
-{
-    let next = behind(output, position, first.len() + second.len())?;
-    let middle = position + first.len();
-    output[position..middle].copy_from_slice(first);
-    output[middle..next].copy_from_slice(second);
-    Ok(next)
+    // Writes a piece, whole or not.
+    pub fn put(&mut self, piece: &[u8]) -> Result<(), Full>
+        ensures { Put piece.now self.old result self.new }
+    {
+        let next = self.behind(piece.len())?;
+        self.bytes[self.at..next].copy_from_slice(piece);
+        self.at = next;
+        Ok(())
+    }
+
+    // The same for a piece whose bytes stand in two places.
+    #[tactic(auto, using(crate::proofs::Overwritten::two_parts))]
+    pub fn put_two(&mut self, first: &[u8], second: &[u8]) -> Result<(), Full>
+        ensures { Put (first.now ++ second.now) self.old result self.new }
+    {
+        let next = self.behind(first.len() + second.len())?;
+        let middle = self.at + first.len();
+        self.bytes[self.at..middle].copy_from_slice(first);
+        self.bytes[middle..next].copy_from_slice(second);
+        self.at = next;
+        Ok(())
+    }
 }

@@ -10,6 +10,7 @@ ghost use Rattle.rules.specs.Value.{Values};
 ghost use Rattle.words.specs.Strings.{answer_in, canonical_answer, closer_in, canonical_parted, value_in, canonical_valued};
 
 use list::{List, ListMut};
+use output::Output;
 use source::Span;
 use words::{AnswerWords, PartedWords, ValuedWords};
 
@@ -55,8 +56,13 @@ pub extern "C" fn rcl_unescape_into(
     ensures canonical { result ≡ canonical_answer result }
 {
     let span = Span { low, high };
-    let written = string::unescape_into(text, span, kind, output, position);
-    AnswerWords::from(written.map(|bytes| bytes as u64))
+    let mut output = Output {
+        bytes: output,
+        at: position,
+    };
+    let answer = string::unescape_into(text, span, kind, &mut output);
+    let written = output.at - position;
+    AnswerWords::from(answer.map(|()| written as u64))
 }
 
 // The indent of a parts list.

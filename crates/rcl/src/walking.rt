@@ -13,7 +13,7 @@ use words::{RefusalWords, SteppedWords};
 pub extern "C" fn rcl_walker_open(doc: u32, text: &[u8]) -> RefusalWords
     ensures { result ≡ kept_as doc (kept_of text.now) }
 {
-    words::kept(doc, walker::open_from(doc, text))
+    words::kept(doc, walker::open_from(text))
 }
 
 // One step of a walker.
@@ -33,7 +33,13 @@ pub extern "C" fn rcl_walker_step(
     ensures steps_to { StepsTo (walking_told text.now doc position depth (told_by doc kept number low high) (arrays skinds.old swords.old)) result (arrays skinds.new swords.new) }
     ensures canonical { result ≡ canonical_stepped result }
 {
-    let Ok(kept) = words::told_by(doc, kept, number, low, high) else {
+    let told = RefusalWords {
+        refused: kept,
+        number: u64::from(number),
+        low,
+        high,
+    };
+    let Ok(kept) = words::told_by(doc, told) else {
         return words::wrong(doc, text.len(), position, depth);
     };
     let mut stack = ListMut {

@@ -1,6 +1,6 @@
 -- The lines that are printed from the arrays are those of the lexemes that the rule lists.
 use Rattle.std.specs.Prelude.{ℕ, zero, suc, ◌≡◌, ◌≤◌, ◌<◌, List, [], ◌∷◌, take, drop, length, IfSome, None, Some, Option, ltb, false, ◌+◌}
-use Rattle.std.proofs.Common.{arith, refl, sym, length-take-le}
+use Rattle.std.proofs.Common.{arith, refl, sym}
 use Rattle.std.proofs.KnownBytes.{Appends-trans}
 use borrow.Author.Tests.{le-ltb}
 use Rattle.std.specs.Io.KnownBytes.{Appends}
@@ -42,10 +42,10 @@ lines_listed {text} {list} {stack} {list'} {stack'} {r} h ok =
     rw (sym h.result, ok, same kind_said, same span_said) refl
 
 -- a text that left room is listed
-pub ended_listed : (known : Option (List ℕ)) (room : List ℕ) (n : ℕ) (a b : Option (List ℕ)) → length room ≡ 4097 → IfSome known (λ bytes. (n < length room) × (take n room ≡ bytes)) → Appends a b (text_listed (take n room)) →
+pub ended_listed : (known : Option (List ℕ)) (text : List ℕ) (a b : Option (List ℕ)) → IfSome known (λ bytes. (length bytes < 4097) × (text ≡ bytes)) → Appends a b (text_listed text) →
     IfSome known (λ text. Appends a b (listing_of text))
-ended_listed None room n a b many h p = tt
-ended_listed (Some xs) room n a b many h p =
-    let few : length xs ≤ 4096 = rw (sym h.1) (omega (arith, h.0, many, length-take-le n room (omega (arith, h.0)))) in
-    let short : ltb 4096 (length xs) ≡ false = le-ltb 4096 (length xs) few in
+ended_listed None text a b h p = tt
+ended_listed (Some bytes) text a b h p =
+    let few : length bytes ≤ 4096 = omega (arith, h.0) in
+    let short : ltb 4096 (length bytes) ≡ false = le-ltb 4096 (length bytes) few in
     rw (short, sym h.1) p

@@ -1,6 +1,5 @@
 -- What is printed, byte for byte.
 use Rattle.std.specs.Prelude.{ℕ, zero, suc, List, [], ◌++◌, ◌≡◌, take, drop, length, cond, ltb, codes, decimal}
-use Rattle.std.proofs.Math.Option.{Option, none, some}
 use Rattle.std.specs.Prelude.{Option as Option'}
 use Rattle.std.specs.Io.KnownBytes.{Appends, Keeps}
 use Rattle.rules.specs.Refusals.{TooLong}
@@ -10,21 +9,13 @@ use Rattle.rules.specs.Lent.{Lexeme}
 use Rattle.rules.specs.Lexing.{Lexed, lexing, listing}
 use Rattle.rules.specs.Tidy.{tidying}
 use Rattle.list.specs.Entries.{first_of}
+use Rattle.source.specs.Printed.{next, refusal_text}
+use Rattle.report.specs.declared.print.Failed.{Failed}
+use Rattle.report.specs.declared.print.Failed.TheVariants.{Unread, Unwritten}
 
--- a number, a space before it
-abbrev pub next : ℕ → List ℕ
-next n = codes " " ++ decimal n
-
-abbrev pub offsets : Span → List ℕ
-offsets s = next s.start ++ next s.end
-
-abbrev pub note_offsets : Option Span → List ℕ
-note_offsets none = []
-note_offsets (some s) = offsets s
-
--- "A refusal prints `refused`, number, start, end, and note start and end if any, on one line with single spaces."
+-- the line that a refusal prints
 abbrev pub refusal_line : Refusal → List ℕ
-refusal_line r = codes "refused" ++ (next r.number ++ (offsets r.at ++ (note_offsets r.note ++ codes "\n")))
+refusal_line r = refusal_text r ++ codes "\n"
 
 -- of a text over a program's limit
 abbrev pub over_line : List ℕ
@@ -93,3 +84,8 @@ TidiedIn places stack text out to to' refusals refusals' =
 -- with memory for every text of 65,536 bytes
 abbrev pub TextTidied : (text : List ℕ) → (to to' refusals refusals' : Option' (List ℕ)) → Type 0
 TextTidied text to to' refusals refusals' = (out : List ℕ) × (length out ≡ 131072) × TidiedIn 65536 65536 text out to to' refusals refusals'
+
+-- what is said on standard error where something could not be read or written
+abbrev pub message : Failed → List ℕ
+message Unread = codes "standard input could not be read"
+message Unwritten = codes "the answer could not be written"

@@ -2,6 +2,7 @@
 // after it but a line on standard error that says so.
 #![tactic(auto)]
 
+mod answer;
 mod input;
 mod listed;
 mod print;
@@ -9,4 +10,5 @@ mod rooms;
 mod tidied;
 
 pub use listed::print_listing;
+pub use print::Failed;
 pub use tidied::print_tidied;

@@ -1,15 +1,17 @@
 // The listing of a text: its sizes, the kind codes of its lexemes, and their spans.
-ghost use Rattle.std.specs.Prelude.{◌++◌, ℕ, List, OnOk, IfSome, IsTrue, codes};
+ghost use Rattle.std.specs.Prelude.{◌++◌, ℕ, List, OnOk, IfSome, codes};
 ghost use Rattle.std.specs.Io.KnownBytes.{Appends, Keeps};
 ghost use Rattle.rules.specs.Lent.{Lexeme, contents};
 ghost use Rattle.list.specs.Entries.{entry_meant, list_meant};
 ghost use Rattle.lexer.specs.Results.{lexed_meant};
 ghost use Rattle.report.specs.Printed.{sizes_line, separator, kind_said, span_said, entries_of, listed_lines, text_listed, listing_of};
 
-use crate::rooms::room;
-use crate::{input, print};
+use crate::answer::answer;
+use crate::print;
+use crate::print::Failed;
+use crate::rooms::Arrays;
 use lexer::Lexed;
-use list::{Entry, List, ListMut};
+use list::{Entry, List};
 use std::io;
 use std::io::{Read, Write};
 
@@ -34,7 +36,7 @@ fn separate<W: Write>(to: &mut W, place: usize) -> io::Result<()>
     to.write_all(b" ")
 }
 
-// What a line of the listing says of each lexeme.
+// What a line of the listing says of each lexeme. Kept: a trait and no closure, since the contract of a line names what is said of a lexeme (`said`).
 trait Column {
     ghost said: { Lexeme → List ℕ };
 
@@ -72,6 +74,7 @@ fn print_line<W: Write, C: Column>(
 ) -> io::Result<()>
     ensures { OnOk result (Appends (W.contents to.old) (W.contents to.new) (entries_of C.said (contents (list_meant list.entry)) lexemes ++ codes "\n")) }
 {
+    // Kept: by places, since what stands before an entry is told by its place.
     for i in 0..lexemes {
         separate(to, i)?;
         column.print(to, list.get(i))?;
@@ -85,50 +88,39 @@ fn print_list<W: Write>(to: &mut W, bytes: usize, lexed: Lexed, list: List<'_>) 
 {
     print_sizes(to, bytes, lexed)?;
     print_line(to, &Kinds, list, lexed.lexemes)?;
-    print_line(to, &Spans, list, lexed.lexemes)
+    print_line(to, &Spans, list, lexed.lexemes)?;
+    to.flush()
 }
 
 // Lexes a text into a list of 1,024 places with a stack of 64, and prints what comes of it.
-fn list_text<W: Write, E: Write>(text: &[u8], to: &mut W, errors: &mut E) -> bool
-    ensures listing { IsTrue result → Appends (W.contents to.old) (W.contents to.new) (text_listed text.now) }
-    ensures quiet { IsTrue result → Keeps (E.contents errors.old) (E.contents errors.new) }
+fn list_text<W: Write>(text: &[u8], to: &mut W) -> io::Result<()>
+    ensures { OnOk result (Appends (W.contents to.old) (W.contents to.new) (text_listed text.now)) }
 {
-    let mut kinds = [0u8; 1024];
-    let mut words = [0u64; 2048];
-    let mut stack_kinds = [0u8; 64];
-    let mut stack_words = [0u64; 128];
-    let mut list = ListMut {
-        kinds: &mut kinds,
-        words: &mut words,
-    };
-    let mut stack = ListMut {
-        kinds: &mut stack_kinds,
-        words: &mut stack_words,
-    };
+    let mut list_arrays = Arrays::<1024, 2048>::new();
+    let mut stack_arrays = Arrays::<64, 128>::new();
+    let mut list = list_arrays.lend();
+    let mut stack = stack_arrays.lend();
     let lexed = lexer::lex(0, text, &mut list, &mut stack);
     match lexed.answer {
-        Ok(()) => {
-            let written = print_list(to, text.len(), lexed, list.list());
-            print::finish(to, errors, written)
-        }
-        Err(refusal) => print::refuse(to, errors, refusal),
+        Ok(()) => print_list(to, text.len(), lexed, list.list()),
+        Err(refusal) => print::refuse(to, refusal),
     }
 }
 
 // "A listing program reads standard input (over 4,096 bytes: refusal 2; list 1,024 places, stack 64)." `from` is standard input, `to` standard output and `errors` standard error.
-// Says whether the whole answer could be written.
 #[tactic(auto, using(crate::proofs::Lines::ended_listed))]
-pub fn print_listing<R: Read, W: Write, E: Write>(from: &mut R, to: &mut W, errors: &mut E) -> bool
-    ensures listing { IsTrue result → IfSome (R.remaining from.old) (λ text. Appends (W.contents to.old) (W.contents to.new) (listing_of text)) }
-    ensures quiet { IsTrue result → Keeps (E.contents errors.old) (E.contents errors.new) }
+pub fn print_listing<R: Read, W: Write, E: Write>(
+    from: &mut R,
+    to: &mut W,
+    errors: &mut E,
+) -> Result<(), Failed>
+    ensures listing { OnOk result (IfSome (R.remaining from.old) (λ text. Appends (W.contents to.old) (W.contents to.new) (listing_of text))) }
+    ensures quiet { OnOk result (Keeps (E.contents errors.old) (E.contents errors.new)) }
 {
-    let mut text: [u8; 4097] = room();
-    match input::read_text(from, &mut text) {
-        Ok(Some(n)) => list_text(&text[..n], to, errors),
-        Ok(None) => print::refuse_over(to, errors),
-        Err(_) => {
-            print::tell_unread(errors);
-            false
-        }
-    }
+    let answered = answer::<4097, _, _, _>(
+        from,
+        to,
+        &mut |text: &[u8], to: &mut W| { list_text(text, to) },
+    );
+    print::told(answered, errors)
 }

@@ -1,4 +1,4 @@
-// The rules of document 01 as definitions (specs/), the laws about them that every crate above needs (proofs/), and the rules' numbers by name. No code.
+// The rules of document 01 as definitions (specs/), the laws about them that every crate above needs (proofs/), and the rules' numbers by name.
 #![tactic(auto)]
 
 pub mod class;

@@ -21,7 +21,7 @@ use Rattle.scan.specs.declared.Measured.{Measured}
 use Rattle.scan.specs.declared.Looked.{Looked}
 use Rattle.scan.specs.Reach.{Reach}
 use Rattle.scan.specs.Measuring.{measured_meant, LooksAs, further_of, goes_on, EndsAt, Passing}
-use Rattle.scan.proofs.Reach.{along, more, join, over, wider}
+use Rattle.scan.proofs.Reach.{along, stay, more, join, over, wider}
 
 -- a byte adds at most one line
 line-le : (x : Bool) → cond x 1 0 ≤ 1
@@ -160,6 +160,23 @@ pub going : {t : List ℕ} {at : ℕ} {m : Measured} {r : Bool} → Passing t at
 going {t} {at} {m} y e h =
     let x : (eqb m.length m.looked ≡ true) × (ltb (at + m.length) (length t) ≡ true) = both (eqb m.length m.looked) (ltb (at + m.length) (length t)) (sym e ∙ h) in
     (sym (eqb-true m.length m.looked x.0), ltb-true (at + m.length) (length t) x.1)
+
+-- A pass that has looked at nothing
+pub looked-none : {t : List ℕ} {at : ℕ} {m : Measured} → (m.length ≡ 0) × ((m.lines ≡ 0) × (m.looked ≡ 0)) → Passing t at m
+looked-none {t} {at} {m} z =
+    let here : at + m.length ≡ at = omega (arith, z.0) in
+    record {
+      reach = rw here stay;
+      few = omega (arith, z.1.0);
+      counted = rw here (omega (arith, z.1.0));
+      looked = inl (omega (arith, z.0, z.1.1));
+    }
+
+-- The pass after one more look
+pub look-on : {t : List ℕ} {at : ℕ} {m n : Measured} {l : Looked} {r : Bool} → Passing t at m → r ≡ goes_on t at m → r ≡ true → LooksAs t (at + m.length) 1 l → n ≡ further_of m l → Passing t at n
+look-on {t} {at} {m} {n} {l} {r} y e h x f =
+    let g = going y e h in
+    rw f (passing_more y g.0 (omega arith) (omega (arith, g.1)) x)
 
 -- The pass is over
 measured-by : (s : List ℕ) {m : Measured} → m.length ≡ (measured s).length → m.lines ≡ (measured s).lines → m.looked ≡ (measured s).looked → measured_meant m ≡ measured s

@@ -6,19 +6,22 @@
 #![tactic(auto)]
 
 // Types for dealing with input source code.
-ghost use Rattle.std.specs.Prelude.{◌≡◌, ◌^◌, ◌<◌, ◌≤◌, not, ◌&&◌, eqb, length, OnOk};
+ghost use Rattle.std.specs.Prelude.{◌≡◌, ◌^◌, ◌<◌, ◌≤◌, not, ◌&&◌, eqb, length, OnOk, Some};
 ghost use Rattle.rules.specs.Spans.{span, nowhere as nowhere_rule, is_bad};
 ghost use Rattle.rules.specs.Answers.{refusal, given, unless_bad};
 ghost use Rattle.rules.specs.Refusals.{BadSpan};
 ghost use Rattle.rules.specs.Reasons.{number_of};
 ghost use Rattle.rules.specs.Source.{new_span, len_of, trim_start, trim_end, until_of, union_of, resolved};
 ghost use Rattle.source.specs.Meaning.{span_meant, refusal_meant, spanned_meant, count_meant, offsets_meant, inside_meant, part_of, resolved_at};
+ghost use Rattle.source.specs.Printed.{refusal_text};
 
 use rules::{LIMIT, Reason};
+use std::error::Error;
+use std::fmt;
 
 // Marks a location in a source file by byte offset. Packed, from the least significant bit: 48 bits start offset, 48 bits end offset, 32 bits document id.
 // Kept: any two words make one, as C gives them, so that it is no bad one is asked where it matters (`is_bad`) and is no invariant.
-#[derive(Clone, Copy, Debug, PartialEq, Eq)]
+#[derive(Clone, Copy, Debug, Default, PartialEq, Eq)]
 pub struct Span {
     pub low: u64,
     pub high: u64,
@@ -32,12 +35,28 @@ pub struct Refusal {
     pub note: Option<Span>,
 }
 
+// "A refusal prints `refused`, number, start, end, and note start and end if any, on one line with single spaces."
+impl fmt::Display for Refusal {
+    ghost output = { λ r. Some (refusal_text (refusal_meant r)) };
+
+    fn fmt<W: fmt::Write>(&self, f: &mut fmt::Formatter<W>) -> fmt::Result {
+        let number = u8::from(self.reason);
+        write!(f, "refused {number} {} {}", self.at.start(), self.at.end())?;
+        match self.note {
+            Some(opener) => write!(f, " {} {}", opener.start(), opener.end()),
+            None => Ok(()),
+        }
+    }
+}
+
+impl Error for Refusal {}
+
 // "elsewhere 0-0 is two zero words"
 #[tactic(auto, unfolding(rules::specs::Spans::span_of))]
 pub fn nowhere() -> Span
     ensures { span_meant result ≡ nowhere_rule }
 {
-    Span { low: 0, high: 0 }
+    Span::default()
 }
 
 // "Spans of a lexing call carry its document id, 0-0 too"
@@ -59,7 +78,7 @@ pub fn refuse(reason: Reason, at: Span) -> Refusal
 }
 
 // "Refusal 3 carries the span 0-0"
-fn bad_span() -> Refusal
+pub fn bad_span() -> Refusal
     ensures { refusal_meant result ≡ refusal BadSpan nowhere_rule }
 {
     refuse(Reason::BadSpan, nowhere())
@@ -88,7 +107,7 @@ impl Span {
         let e = end as u64;
         Span {
             low: s + e % 0x1_0000 * 0x1_0000_0000_0000,
-            high: e / 0x1_0000 + (doc as u64) * 0x1_0000_0000,
+            high: e / 0x1_0000 + u64::from(doc) * 0x1_0000_0000,
         }
     }
 
@@ -109,6 +128,7 @@ impl Span {
     }
 
     // End byte offset of the span, exclusive.
+    #[tactic(auto, unfolding(rules::specs::Spans::span_of))]
     pub fn end(self) -> usize
         ensures { result ≡ (span_meant self).end }
     {
@@ -207,6 +227,7 @@ impl Span {
 }
 
 // The part of a text that a span names, at its place; the text's empty start where `inside` refuses.
+// Kept: a slice and no `Option`, since for a refused span a hand-back owes the text's empty start; whoever wants the refusal asks `inside`.
 pub fn resolve(text: &[u8], span: Span) -> &[u8]
     ensures part { result.now ≡ part_of (resolved text.now (span_meant span)) }
     ensures address { result.ref_ptr ≡ resolved_at text.entry (span_meant span) }

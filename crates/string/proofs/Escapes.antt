@@ -40,5 +40,11 @@ module _ {text : List ℕ} {s : Span} {k : ℕ} {out : List ℕ} {at : ℕ} wher
       let w = written-one-not (end_of out) at (piece (encode u) s) h in
       record { answered = rw (e, w) refl; output = rw (e, w) (sym (overwritten-nothing out at)) }
 
+  -- the same by the position behind it
+  pub unescape-on : {u next : ℕ} → escape_scalar text s k ≡ given u → at + length (encode u) ≤ end_of out → next ≡ at + length (encode u) → Unescapes text s k out at (given (next - at)) (overwritten out at (encode u))
+  unescape-on {u} {next} e h n =
+      let count : next - at ≡ length (encode u) = omega (arith, n) in
+      rw count (unescape-fits e h)
+
 -- both, for a call that puts the bytes
-pub ruleset writes = (put-ok, put-err, unescape-fits, unescape-not)
+pub ruleset writes = (put-ok, put-err, unescape-on, unescape-not)

@@ -1,12 +1,11 @@
 -- Laws of lines and parts: the spaces of a line, what a part that is accepted tells, and the indent from any part on.
 use Prim.Native.Nat.{ℕ, min}
 use native.Mathlib.Omega.{arith}
-use mathlib.Core.Path.{◌≡◌, refl, sym, ap, ◌∙◌}
+use mathlib.Core.Path.{◌≡◌, refl}
 use mathlib.Core.Bool.{Bool, true, false, cond, not, ◌&&◌}
-use mathlib.Core.List.{List, [], ◌∷◌, ◌++◌, append-nil}
+use mathlib.Core.List.{List, [], ◌∷◌, ◌++◌}
 use lib.Dec.{leb}
-use lib.ListN.{length, take, length-take}
-use lib.Seq.{take-take, take-length}
+use lib.ListN.{length, take}
 use Rattle.std.specs.Prelude.{Option, Some, None}
 use Rattle.rules.specs.Text.{begins}
 use Rattle.rules.specs.Refusals.{BadSpan, WrongForm}
@@ -103,11 +102,9 @@ abbrev pub indent_from : List ℕ → (before : List ℕ) → List Lexeme → An
 indent_from text ns ps = and_then (first_refusal (part_verdict text) ps) (given (fewest (ns ++ indents_of text ps)))
 
 -- the call starts with its first part and none before it
-pub indent-start : (text : List ℕ) (parts : Arrays) (count : ℕ) → let ls = contents parts in indent_call text parts count ≡ indent_from text [] (take (length (take count ls)) ls)
+pub indent-start : (text : List ℕ) (parts : Arrays) (count : ℕ) → indent_call text parts count ≡ indent_from text [] (take count (contents parts))
 unfolding indent_call indent_of
-indent-start text parts count =
-    let ls = contents parts in
-    ap (λ (ps : List Lexeme). indent_from text [] ps) (sym (take-length (take count ls)) ∙ take-take (length (take count ls)) count ls (omega (arith, length-take count ls)))
+indent-start text parts count = refl
 
 -- it goes on behind a part that nothing is said against
 pub indent-on : (text : List ℕ) (s t : Option ℕ) (p : Lexeme) (ps : List Lexeme) → part_verdict text p ≡ accepted → fewest_meant t ≡ part_indents text (string_next ps) p
@@ -118,7 +115,3 @@ indent-on text s t p ps h e =
 -- it stops at a part that is refused
 pub indent-stop : (text ns : List ℕ) (p : Lexeme) (ps : List Lexeme) (r : Refusal) → part_verdict text p ≡ refused r → indent_from text ns (p ∷ ps) ≡ refused r
 indent-stop text ns p ps r h = rw h
-
--- it ends behind the last part with the fewest of what was added
-pub indent-end : (text ns : List ℕ) → indent_from text ns [] ≡ given (fewest ns)
-indent-end text ns = rw (append-nil ns)

@@ -4,10 +4,9 @@
 // From src/string.rs of RCL, changed: the parts stand in a lent list, and a part that is none of the text's is refused.
 
 // The indent of a string's parts.
-ghost use Rattle.std.specs.Prelude.{◌≡◌, take, drop};
+ghost use Rattle.std.specs.Prelude.{◌≡◌};
 ghost use Rattle.rules.specs.Text.{begins};
-ghost use Rattle.rules.specs.Lent.{contents};
-ghost use Rattle.rules.specs.Indent.{spaces_after, string_next, indent_call};
+ghost use Rattle.rules.specs.Indent.{spaces_after, indent_call};
 ghost use Rattle.source.specs.Meaning.{answer_meant, count_meant};
 ghost use Rattle.list.specs.Entries.{entry_meant, list_meant};
 ghost use Rattle.cst.specs.Meaning.{part_meant};
@@ -82,14 +81,6 @@ fn fewer(spaces: Option<usize>, more: Option<usize>) -> Option<usize>
     }
 }
 
-// Whether the entry at a place of a list with this end is a String part.
-#[tactic(auto, using(list::proofs::Entries::first_taken, crate::proofs::Lines::next_first))]
-fn is_string_at(list: List<'_>, end: usize, place: usize) -> bool
-    ensures { result ≡ string_next (drop place (take end (contents (list_meant list.entry)))) }
-{
-    place < end && list.get(place).kind == kind::STRING_INNER
-}
-
 // The fewest spaces after LF over the String parts that begin with it, in a parts list with so many parts.
 pub fn count_common_leading_spaces(
     text: &[u8],
@@ -98,12 +89,13 @@ pub fn count_common_leading_spaces(
 ) -> Result<usize, Refusal>
     ensures { count_meant result ≡ indent_call text.now (list_meant list.entry) count }
 {
-    let end = list.end(count);
+    let parts = list.first(count);
     let mut n_spaces = None;
     // The lexer already breaks strings up into lines, so a part contains at most one newline. But a line may contain multiple parts, in the case of holes.
-    for i in 0..end {
-        let part = check(text, list.get(i))?;
-        let has_next_line = is_string_at(list, end, i + 1);
+    // Kept: by places, since a part is looked at together with the one behind it.
+    for i in 0..parts.places() {
+        let part = check(text, parts.get(i))?;
+        let has_next_line = parts.get(i + 1).kind == kind::STRING_INNER;
         let n = part_indent(text, part, has_next_line);
         n_spaces = fewer(n_spaces, n);
     }

@@ -14,7 +14,7 @@ ghost use Rattle.rules.specs.Names.{is_identifier};
 fn is_letter(b: u8) -> bool
     ensures { result ≡ is_letter b }
 {
-    matches!(b, b'a'..=b'z' | b'A'..=b'Z' | b'_')
+    b.is_ascii_alphabetic() | (b == b'_')
 }
 
 // An ASCII letter, a digit, `_` or `-`.

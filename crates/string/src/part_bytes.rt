@@ -5,9 +5,9 @@ ghost use Rattle.rules.specs.Escapes.{escape_scalar, escape_bytes};
 ghost use Rattle.rules.specs.Value.{dedented, part_bytes};
 ghost use Rattle.source.specs.Meaning.{span_meant};
 ghost use Rattle.token.specs.Codes.{escape_code};
-ghost use Rattle.utf8.specs.Meaning.{encoded_meant};
 ghost use Rattle.cst.specs.Meaning.{part_meant};
 ghost use Rattle.string.specs.Indents.{taken_off};
+ghost use Rattle.string.specs.Meaning.{bytes_or_none};
 
 use crate::{leading, unescape};
 use cst::StringPart;
@@ -58,17 +58,12 @@ fn bytes_at(text: &[u8], span: Span) -> &[u8]
     &text[start..end]
 }
 
-// The bytes of an escape sequence; none where it is refused.
-fn escape_bytes(text: &[u8], span: Span, escape: Escape) -> Encoded
-    ensures { encoded_meant result ≡ escape_bytes (escape_scalar text.now (span_meant span) (escape_code escape)) }
+// The bytes of an escape sequence that is not refused.
+fn escape_bytes(text: &[u8], span: Span, escape: Escape) -> Option<Encoded>
+    ensures { bytes_or_none result ≡ escape_bytes (escape_scalar text.now (span_meant span) (escape_code escape)) }
 {
-    let Ok(u) = unescape::scalar_value(text, span, u8::from(escape)) else {
-        return Encoded {
-            bytes: [0, 0, 0, 0],
-            length: 0,
-        };
-    };
-    utf8::encode(u)
+    let u = unescape::scalar_value(text, span, u8::from(escape)).ok()?;
+    Some(utf8::encode(u))
 }
 
 // How many bytes a part stands for: none for a hole, or for an escape sequence that is refused.
@@ -78,7 +73,9 @@ pub fn part_length(text: &[u8], indent: usize, part: StringPart) -> usize
 {
     match part {
         StringPart::String(span) => line_length(bytes_at(text, span), indent),
-        StringPart::Escape(span, escape) => escape_bytes(text, span, escape).as_bytes().len(),
+        StringPart::Escape(span, escape) => {
+            escape_bytes(text, span, escape).map_or(0, |bytes| bytes.as_bytes().len())
+        }
         StringPart::Hole(_) => 0,
     }
 }
@@ -90,9 +87,9 @@ pub fn part_byte(text: &[u8], indent: usize, part: StringPart, i: usize) -> u8
 {
     match part {
         StringPart::String(span) => line_byte(bytes_at(text, span), indent, i),
-        StringPart::Escape(span, escape) => basics::byte_at(
-            escape_bytes(text, span, escape).as_bytes(),
-            i,
+        StringPart::Escape(span, escape) => escape_bytes(text, span, escape).map_or(
+            0,
+            |bytes| basics::byte_at(bytes.as_bytes(), i),
         ),
         StringPart::Hole(_) => 0,
     }

@@ -4,7 +4,7 @@
 // From src/string.rs of RCL, changed: on bytes, the form is checked, output goes to a lent array, and an error is a numbered refusal.
 
 // Escape sequences: the scalar value of one, and writing it.
-ghost use Rattle.std.specs.Prelude.{◌≡◌, true, IfOk};
+ghost use Rattle.std.specs.Prelude.{◌≡◌, ◌≤◌, true, IfOk};
 ghost use Rattle.rules.specs.Text.{all};
 ghost use Rattle.rules.specs.Bytes.{is_hex_digit};
 ghost use Rattle.rules.specs.Utf8.{is_scalar};
@@ -12,11 +12,12 @@ ghost use Rattle.rules.specs.Reasons.{number_of};
 ghost use Rattle.rules.specs.Answers.{refuse};
 ghost use Rattle.rules.specs.Escapes.{is_single, is_unicode4, is_unicode_delim, single_scalar, unicode_scalar, scalar_of, escape_scalar, Unescapes};
 ghost use Rattle.source.specs.Meaning.{span_meant, count_meant};
-ghost use Rattle.output.specs.Places.{Put};
+ghost use Rattle.output.specs.Places.{Put, SameBytes};
 ghost use Rattle.utf8.specs.Meaning.{encoded_meant};
+ghost use Rattle.string.specs.Meaning.{bytes_written};
 
 use crate::hex;
-use output::Full;
+use output::{Full, Output};
 use rules::{Reason, kind};
 use source::{Refusal, Span};
 use utf8::Encoded;
@@ -128,32 +129,35 @@ pub fn scalar_value(text: &[u8], span: Span, kind: u8) -> Result<u32, Refusal>
 
 // Writes the bytes of a character, whole or not.
 // Kept: by its length; a copy of `as_bytes`, whose length is not known, takes a quarter more instructions for one byte.
-fn put_encoded(encoded: Encoded, output: &mut [u8], position: usize) -> Result<usize, Full>
-    ensures { Put (encoded_meant encoded) position output.old result output.new }
+fn put_encoded(encoded: Encoded, output: &mut Output<'_>) -> Result<(), Full>
+    ensures { Put (encoded_meant encoded) output.old result output.new }
 {
     let bytes = encoded.bytes;
     let n = encoded.length;
     match n {
-        1 => output::put(&bytes[..1], output, position),
-        2 => output::put(&bytes[..2], output, position),
-        3 => output::put(&bytes[..3], output, position),
-        _ => output::put(&bytes[..n], output, position),
+        1 => output.put(&bytes[..1]),
+        2 => output.put(&bytes[..2]),
+        3 => output.put(&bytes[..3]),
+        _ => output.put(&bytes[..n]),
     }
 }
 
-// Convert an escape sequence into the bytes it represents, at a position of the output: as `scalar_value`, then 46.
+// Convert an escape sequence into the bytes it represents, at the output's position: as `scalar_value`, then 46.
 #[tactic(auto, using(crate::proofs::Escapes::writes), unfolding(rules::specs::Escapes::unescape, rules::specs::Escapes::scalar_put))]
 pub fn unescape_into(
     text: &[u8],
     span: Span,
     kind: u8,
-    output: &mut [u8],
-    position: usize,
-) -> Result<usize, Refusal>
-    ensures { Unescapes text.now (span_meant span) kind output.old position (count_meant result) output.new }
+    output: &mut Output<'_>,
+) -> Result<(), Refusal>
+    ensures unescapes { Unescapes text.now (span_meant span) kind output.old.bytes.now output.old.at (bytes_written output.old result output.new) output.new.bytes.now }
+    ensures onward { output.old.at ≤ output.new.at }
+    ensures same { SameBytes output.old output.new }
 {
     let u = scalar_value(text, span, kind)?;
-    put_encoded(utf8::encode(u), output, position)
-        .map(|next| next - position)
-        .map_err(|_| source::refuse(Reason::OutputFull, span))
+    // Kept: a match; behind `map_err` the check finds no proof by the laws of escapes.
+    match put_encoded(utf8::encode(u), output) {
+        Ok(()) => Ok(()),
+        Err(Full) => Err(source::refuse(Reason::OutputFull, span)),
+    }
 }

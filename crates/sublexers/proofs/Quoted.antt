@@ -28,7 +28,7 @@ use Rattle.sublexers.specs.Quotes.{stop_of, inner_by, inside_by}
 use Rattle.sublexers.proofs.Numbers.{some_inside}
 
 module _ (t : List ℕ) (at b : ℕ) where
-  -- what follows the first byte is the text'(b ∷ drop (at + 1) t)
+  -- what follows the first byte is the text's
   behind : (n : ℕ) → 0 < n → drop n (b ∷ drop (at + 1) t) ≡ drop (at + n) t
   behind zero h = absurd (omega arith)
   behind (suc m) h =
@@ -66,7 +66,7 @@ module _ (t : List ℕ) (at b : ℕ) where
       let there : at + (2 + run is_hex_digit (drop (at + 2) t)) ≡ end = omega arith in
       rw (behind 2 (omega arith), lt-leb 4 (run is_hex_digit (drop (at + 2) t)) (omega arith), add-zero, there)
 
-  -- `\` at the text'(b ∷ drop (at + 1) t) end
+  -- `\` at the text's end
   pub single_end : b ≡ backslash → length t ≤ at + 1 → refused_at EscapeAtEnd at (at + 1) ≡ outcome at (single_escape (b ∷ drop (at + 1) t))
   unfolding single_escape
   single_end q h =
@@ -117,7 +117,7 @@ module _ (t : List ℕ) (at b : ℕ) where
         let here : is "\\" b ≡ true = rw q refl in
         rw (first-is "\\", here)
 
-    -- at a quote, by the code'(b ∷ drop (at + 1) t) test for one that closes
+    -- at a quote, by the code's test for one that closes
     pub at_quote : b ≡ code "\"" → inside_by end triple (b ∷ drop (at + 1) t) ≡ cond (not triple || is "\"" (get_or t (at + 1) 0) && is "\"" (get_or t (at + 2) 0)) (found QuoteClose (cond triple 3 1)) (inner_by end (b ∷ drop (at + 1) t))
     unfolding inside_by
     at_quote q =
@@ -136,7 +136,7 @@ module _ (t : List ℕ) (at b : ℕ) where
         let there : at + suc (run (is_inner_for end) (drop (at + 1) t)) ≡ at + 1 + run (is_inner_for end) (drop (at + 1) t) = omega arith in
         rw (behind 1 (omega arith), there)
 
-  -- an inner part before a line end is one byte long, by the code'(b ∷ drop (at + 1) t) test for an empty line
+  -- an inner part before a line end is one byte long, by the code's test for an empty line
   pub line_at : (end : ℕ) → is "\n" b && is "\n" (get_or t (at + 1) 0) ≡ true → at + 1 + run (is_inner_for end) (drop (at + 1) t) ≡ at + 1
   unfolding is_inner_for
   line_at end q =

@@ -93,6 +93,7 @@ fn quote_length(triple: bool) -> usize
 // one. We know that one byte is not a `\` or a closing
 // quote for sure, then we take until one is, or until a newline. This ensures that we break up the inner parts of the string into lines, where every
 // '\n' occurs at the start of a line. This makes it easy to strip the leading whitespace later in """-strings. An empty line is found without a search.
+// Kept: `triple` and no `QuoteStyle`, since the lexer keeps it beside `stop`, and outside strings there is no style.
 #[tactic(auto, using(crate::proofs::Quoted::by_first), unfolding(token::specs::Codes::code_of))]
 pub fn lex_in_string(first: u8, text: &[u8], at: usize, stop: u8, triple: bool) -> Step
     ensures { step_meant result ≡ anywhere at (inside_by stop triple (first ∷ drop (at + 1) text.now)) }

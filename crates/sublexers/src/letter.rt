@@ -6,40 +6,20 @@
 #![tactic(auto, using(crate::proofs::Letters::letter_steps), unfolding(token::specs::Codes::code_of))]
 
 // A letter: a format string opens, or an identifier begins.
-ghost use Rattle.std.specs.Prelude.{◌≡◌, cond, ◌+◌, ◌<◌, length, drop};
-ghost use Rattle.rules.specs.Text.{begins};
-ghost use Rattle.rules.specs.Kinds.{FormatDouble, FormatTriple};
-ghost use Rattle.rules.specs.Step.{found as found_rule};
+ghost use Rattle.std.specs.Prelude.{◌≡◌, ◌+◌, drop};
 ghost use Rattle.sublexers.specs.Outcome.{outcome, step_meant};
 ghost use Rattle.sublexers.specs.Words.{is_identifier_byte_in};
 ghost use Rattle.sublexers.specs.ByClass.{lettered_by};
 
-use crate::{Step, ident, lexeme_to};
-use token::{QuoteStyle, StringPrefix, Token};
-
-// `f"""` or `f"`, where an `f` and a quote stand.
-fn open_format(text: &[u8], at: usize) -> Step
-    requires { at + 1 < length text.now }
-    ensures { step_meant result ≡ outcome at (cond (begins "\"\"" (drop (at + 2) text.now)) (found_rule FormatTriple 4) (found_rule FormatDouble 2)) }
-{
-    if basics::byte_at(text, at + 2) == b'"' && basics::byte_at(text, at + 3) == b'"' {
-        return lexeme_to(
-            at + 4,
-            Token::QuoteOpen(StringPrefix::Format, QuoteStyle::Triple),
-        );
-    }
-    lexeme_to(
-        at + 2,
-        Token::QuoteOpen(StringPrefix::Format, QuoteStyle::Double),
-    )
-}
+use crate::{Step, ident, punct};
+use token::StringPrefix;
 
 // A format string opens, or an identifier begins; `first` is the byte there, which the caller has read.
 pub fn lex_in_letter(table: &[u8; 256], first: u8, text: &[u8], at: usize) -> Step
     ensures { step_meant result ≡ outcome at (lettered_by (is_identifier_byte_in table.now) first (drop (at + 1) text.now) (drop at text.now)) }
 {
     if first == b'f' && at < text.len() && basics::byte_at(text, at + 1) == b'"' {
-        return open_format(text, at);
+        return punct::open_quote(text, at, 1, StringPrefix::Format);
     }
     ident::lex_in_ident(table, text, at)
 }

@@ -36,7 +36,7 @@ pub struct Match {
     pub kind: u8,
 }
 
-// Why a step was refused, and its span.
+// Why a step was refused, and its span. Kept: no invariant that its offsets are within the limit, since each sub-lexer answers at every position, those past it included.
 #[derive(Clone, Copy, Debug, PartialEq, Eq)]
 pub struct Fault {
     pub end: usize,
@@ -50,7 +50,7 @@ pub type Step = Result<Match, Fault>;
 // Kept: `at + 1 < 2 ^ 64` in eleven private contracts. A struct of the text and the place that holds it was tried and proved: 2 % more instructions on the move table, 4 % on varied triple-quoted strings, which would be under twice the Rust.
 pub(crate) const LAST: usize = 0xffff_ffff_ffff_ffff;
 
-// A lexeme that ends there. Always inlined, like the two that hand a token on to it: the token is a constant there, so its kind code is one too, and no step looks it up.
+// A lexeme that ends there. Always inlined, like the three that hand a token on to it: the token is a constant there, so its kind code is one too, and no step looks it up.
 #[inline(always)]
 pub(crate) fn lexeme_to(end: usize, token: Token) -> Step
     ensures { step_meant result ≡ lexeme_to (code_of token) end }
@@ -58,7 +58,7 @@ pub(crate) fn lexeme_to(end: usize, token: Token) -> Step
     Ok(Match {
         end,
         token,
-        kind: token::code(token),
+        kind: u8::from(token),
     })
 }
 

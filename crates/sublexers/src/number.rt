@@ -3,7 +3,7 @@
 // Licensed under the Apache License, Version 2.0 (the "License"): see NOTICE.
 // From src/lexer.rs of RCL, changed: a function for each part of a number, and an error is a numbered refusal.
 
-#![tactic(auto, using(crate::proofs::Numbers::number_steps), unfolding(token::specs::Codes::code_of))]
+#![tactic(auto, using(crate::proofs::Numbers::number_steps), unfolding(token::specs::Codes::code_of, rules::specs::Step::is_digit_or_underscore))]
 
 // Numbers: binary, hexadecimal, and decimals as in JSON, without the sign.
 ghost use Rattle.std.specs.Prelude.{◌≡◌, cond, ◌||◌, ◌+◌, ◌<◌, length, drop};
@@ -16,7 +16,7 @@ ghost use Rattle.sublexers.specs.ByClass.{fraction_alone, prefixed_by};
 
 use crate::{Step, lexeme_to, refused_at};
 use rules::Reason;
-use scan::{BinaryOrUnderscore, ByteClass, DigitOrUnderscore, HexOrUnderscore, Underscore};
+use scan::{Binary, ByteClass, Digit, Hex, OrUnderscore, Underscore};
 use token::Token;
 
 // Behind a sign, where there is one.
@@ -41,7 +41,7 @@ fn exponent_at(text: &[u8], at: usize) -> Step
         return refused_at(Reason::NoExponentDigit, digits, digits);
     }
     lexeme_to(
-        scan::run_end(text, digits, DigitOrUnderscore),
+        scan::run_end(text, digits, OrUnderscore(Digit)),
         Token::NumDecimal,
     )
 }
@@ -57,7 +57,7 @@ fn fraction_at(text: &[u8], at: usize) -> Step
         return refused_at(Reason::NoFractionDigit, at, at + 1);
     }
     lexeme_to(
-        scan::run_end(text, at + 1, DigitOrUnderscore),
+        scan::run_end(text, at + 1, OrUnderscore(Digit)),
         Token::NumDecimal,
     )
 }
@@ -69,7 +69,7 @@ fn int_end(text: &[u8], at: usize) -> usize
     if basics::byte_at(text, at) == b'0' {
         return at + 1;
     }
-    scan::run_end(text, at, DigitOrUnderscore)
+    scan::run_end(text, at, OrUnderscore(Digit))
 }
 
 // After `0b` or `0x`: we need at least one digit after the prefix; `none` is the reason where there is none.
@@ -85,7 +85,7 @@ fn prefixed_at<D: ByteClass>(text: &[u8], at: usize, digits: D, token: Token, no
 }
 
 // A number, where a digit stands.
-#[tactic(auto, using(crate::proofs::Numbers::whole_number), unfolding(token::specs::Codes::code_of))]
+#[tactic(auto, using(crate::proofs::Numbers::whole_number), unfolding(token::specs::Codes::code_of, rules::specs::Step::is_digit_or_underscore))]
 pub fn lex_in_number(text: &[u8], at: usize) -> Step
     ensures { step_meant result ≡ outcome at (number (drop at text.now)) }
 {
@@ -95,7 +95,7 @@ pub fn lex_in_number(text: &[u8], at: usize) -> Step
                 return prefixed_at(
                     text,
                     at,
-                    BinaryOrUnderscore,
+                    OrUnderscore(Binary),
                     Token::NumBinary,
                     Reason::NoBinaryDigit,
                 );
@@ -104,7 +104,7 @@ pub fn lex_in_number(text: &[u8], at: usize) -> Step
                 return prefixed_at(
                     text,
                     at,
-                    HexOrUnderscore,
+                    OrUnderscore(Hex),
                     Token::NumHexadecimal,
                     Reason::NoHexDigit,
                 );

@@ -10,9 +10,10 @@ ghost use Rattle.std.specs.Prelude.{◌≡◌, cond, ◌&&◌, suc, ◌+◌, ◌
 ghost use Rattle.rules.specs.Text.{is, begins, run};
 ghost use Rattle.rules.specs.Bytes.{is_not_lf};
 ghost use Rattle.rules.specs.Refusals.{LoneHash};
-ghost use Rattle.rules.specs.Kinds.{Shebang, LineComment, PlainDouble, PlainTriple, HoleOpen, HoleClose, LBrace, RBrace, Eq2, FatArrow, Eq1, Dot, DotDot, DotDotDot, Slash};
+ghost use Rattle.rules.specs.Kinds.{Shebang, LineComment, HoleOpen, HoleClose, LBrace, RBrace, Eq2, FatArrow, Eq1, Dot, DotDot, DotDotDot, Slash};
 ghost use Rattle.rules.specs.Step.{found as found_rule, stop, closer};
-ghost use Rattle.token.specs.Codes.{code_of, state_code};
+ghost use Rattle.token.specs.Codes.{code_of, state_code, quote_code};
+ghost use Rattle.token.specs.declared.QuoteStyle.TheVariants.{Double, Triple};
 ghost use Rattle.sublexers.specs.Outcome.{outcome, anywhere, step_meant, innermost_of};
 ghost use Rattle.sublexers.specs.ByClass.{punctuated};
 
@@ -44,21 +45,17 @@ fn close_brace(at: usize, top: Option<State>) -> Step
     pop_delimiter(at, top, State::Brace, Token::RBrace)
 }
 
-// `"`, or `"""` where two more quotes follow.
-fn open_quote(text: &[u8], at: usize) -> Step
-    requires { at + 1 < 2 ^ 64 }
-    ensures { step_meant result ≡ outcome at (cond (begins "\"\"" (drop (at + 1) text.now)) (found_rule PlainTriple 3) (found_rule PlainDouble 1)) }
+// `"`, or `"""` where two more quotes follow; `before` bytes of a prefix stand before it.
+#[inline(always)]
+pub(crate) fn open_quote(text: &[u8], at: usize, before: usize, prefix: StringPrefix) -> Step
+    requires { at + before + 1 < 2 ^ 64 }
+    ensures { step_meant result ≡ outcome at (cond (begins "\"\"" (drop (at + before + 1) text.now)) (found_rule (quote_code prefix Triple) (before + 3)) (found_rule (quote_code prefix Double) (before + 1))) }
 {
-    if basics::byte_at(text, at + 1) == b'"' && basics::byte_at(text, at + 2) == b'"' {
-        return lexeme_to(
-            at + 3,
-            Token::QuoteOpen(StringPrefix::None, QuoteStyle::Triple),
-        );
+    let quote = at + before;
+    if basics::byte_at(text, quote + 1) == b'"' && basics::byte_at(text, quote + 2) == b'"' {
+        return lexeme_to(quote + 3, Token::QuoteOpen(prefix, QuoteStyle::Triple));
     }
-    lexeme_to(
-        at + 1,
-        Token::QuoteOpen(StringPrefix::None, QuoteStyle::Double),
-    )
+    lexeme_to(quote + 1, Token::QuoteOpen(prefix, QuoteStyle::Double))
 }
 
 // `.`, `..` or `...`.
@@ -141,7 +138,7 @@ pub fn lex_in_punct(first: u8, text: &[u8], at: usize, top: Option<State>) -> St
         b')' => pop_delimiter(at, top, State::Paren, Token::RParen),
         b']' => pop_delimiter(at, top, State::Bracket, Token::RBracket),
         b'}' => close_brace(at, top),
-        b'"' => open_quote(text, at),
+        b'"' => open_quote(text, at, 0, StringPrefix::None),
         b'<' => one_or_two(text, at, b'=', Token::LtEq, Token::Lt),
         b'>' => one_or_two(text, at, b'=', Token::GtEq, Token::Gt),
         b'=' => equals(text, at),

@@ -1,4 +1,4 @@
--- the gaps, and pieces one after another
+-- pieces one after another
 pub mod Written
 -- a whole call
 pub mod Whole

@@ -1,17 +1,18 @@
 // The tidy writer: a text's lexemes, with the gap rule's gaps between them.
 #![tactic(auto)]
 
-ghost use Rattle.std.specs.Prelude.{◌≡◌, take};
+ghost use Rattle.std.specs.Prelude.{◌≡◌};
 ghost use Rattle.rules.specs.Lent.{contents};
 ghost use Rattle.rules.specs.Tidy.{Tidies};
 ghost use Rattle.source.specs.Meaning.{verdict_meant};
 ghost use Rattle.list.specs.Entries.{list_meant, lent_in, SameArrays};
+ghost use Rattle.output.specs.Places.{SameBytes};
 ghost use Rattle.lexer.specs.Results.{lexed_meant};
 ghost use Rattle.tidy.specs.Pieces.{WritesPieces};
 
 use lexer::Lexed;
 use list::{List, ListMut};
-use output::Full;
+use output::{Full, Output};
 use rules::{Reason, kind};
 use source::Refusal;
 
@@ -22,38 +23,23 @@ pub struct Tidied {
     pub written: usize,
 }
 
-// What the writing answers, and how many bytes were written.
-#[derive(Clone, Copy, Debug, PartialEq, Eq)]
-pub struct Wrote {
-    pub answer: Result<(), Refusal>,
-    pub bytes: usize,
-}
-
-// Writes the lexemes of a list, from the output's start. "Nothing before the first": as after a Blank.
-fn write_lexemes(text: &[u8], list: List<'_>, lexemes: usize, output: &mut [u8]) -> Wrote
-    ensures { WritesPieces text.now (take lexemes (contents (list_meant list.entry))) output.old (verdict_meant result.answer) result.bytes output.new }
+// Writes lexemes, from the output's start. "Nothing before the first": as after a Blank.
+fn write_lexemes(text: &[u8], lexemes: List<'_>, output: &mut Output<'_>) -> Result<(), Refusal>
+    requires { output.old.at ≡ 0 }
+    ensures written { WritesPieces text.now (contents (list_meant lexemes.entry)) output.old.bytes.now (verdict_meant result) output.new.at output.new.bytes.now }
+    ensures same { SameBytes output.old output.new }
 {
-    let mut at: usize = 0;
     let mut first = kind::BLANK;
-    for i in 0..list.end(lexemes) {
-        let entry = list.get(i);
+    for entry in lexemes {
         let between = gap::gap_between(first, entry.kind);
         let lexeme = source::resolve(text, entry.at);
-        match gap::put_piece(between, lexeme, output, at) {
-            Ok(next) => at = next,
-            Err(Full) => {
-                return Wrote {
-                    answer: Err(source::refuse(Reason::OutputFull, entry.at)),
-                    bytes: at,
-                };
-            }
+        // Kept: a match, whose arms are what the laws of a piece that was written, and of one that was not, speak of.
+        match gap::put_piece(between, lexeme, output) {
+            Ok(()) => first = entry.kind,
+            Err(Full) => return Err(source::refuse(Reason::OutputFull, entry.at)),
         }
-        first = entry.kind;
     }
-    Wrote {
-        answer: Ok(()),
-        bytes: at,
-    }
+    Ok(())
 }
 
 // Lexes a text into a lent list with a lent stack, then writes it to the output: "Lexing refusals come first, then 46; writing begins at the output's start; the result adds the bytes written."
@@ -72,12 +58,14 @@ pub fn tidy(
     let Ok(()) = lexed.answer else {
         return Tidied { lexed, written: 0 };
     };
-    let wrote = write_lexemes(text, list.list(), lexed.lexemes, output);
+    let lexemes = list.list().first(lexed.lexemes);
+    let mut output = Output {
+        bytes: output,
+        at: 0,
+    };
+    let answer = write_lexemes(text, lexemes, &mut output);
     Tidied {
-        lexed: Lexed {
-            answer: wrote.answer,
-            ..lexed
-        },
-        written: wrote.bytes,
+        lexed: Lexed { answer, ..lexed },
+        written: output.at,
     }
 }

@@ -2,7 +2,7 @@
 #![tactic(auto)]
 
 fn main(rt: HostRuntime) {
-    report::print_tidied(
+    let _ = report::print_tidied(
         &mut rt.stdin(),
         &mut rt.stdout(),
         &mut rt.stderr(),

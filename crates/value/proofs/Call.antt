@@ -1,5 +1,5 @@
 -- The value call, by its refusals: of the parts, of the indent, of the escapes; and where there is none.
-use Rattle.std.proofs.Common.{◌≡◌, ℕ, ◌<◌, cond, List, [], ltb, length, take, drop, refl, sym, ap, ◌∙◌, drop_of_length-le}
+use Rattle.std.proofs.Common.{◌≡◌, ℕ, ◌<◌, cond, List, [], ltb, length, take, take_all, drop, refl, arith, sym, ap, ◌∙◌, drop_of_length-le}
 use borrow.Author.Tests.{ltb-true, ltb-false}
 use Rattle.rules.specs.Refusals.{NoString}
 use Rattle.rules.specs.Spans.{nowhere}
@@ -15,50 +15,54 @@ use Rattle.list.proofs.Entries.{from_place}
 use Rattle.cst.proofs.Found.{found-read}
 use Rattle.value.specs.Pieces.{PartsAccepted, WrittenValue, listed_value, ListedValue}
 
+-- all entries of a list are as many as its places
+pub all-taken : (list : Arrays) (count : ℕ) → count ≡ length (contents list) → take count (contents list) ≡ contents list
+all-taken list count whole = take_all count (contents list) (omega (arith, whole))
+
 -- an indent that is found: no part is refused, and it is theirs
-indent-found : (text : List ℕ) (list : Arrays) (count n : ℕ) → given n ≡ indent_call text list count
-    → (first_refusal (part_verdict text) (take count (contents list)) ≡ accepted) × (n ≡ indent_of text (take count (contents list)))
+indent-found : (text : List ℕ) (list : Arrays) (count n : ℕ) → count ≡ length (contents list) → given n ≡ indent_call text list count
+    → (first_refusal (part_verdict text) (contents list) ≡ accepted) × (n ≡ indent_of text (contents list))
 unfolding indent_call
-indent-found text list count n e = from (first_refusal (part_verdict text) (take count (contents list))) (indent_of text (take count (contents list))) e
+indent-found text list count n whole e = from (first_refusal (part_verdict text) (contents list)) (indent_of text (contents list)) (rw (all-taken list count whole) at e)
   where
     from : (v : Verdict) (m : ℕ) → given n ≡ and_then v (given m) → (v ≡ accepted) × (n ≡ m)
     from (given u) m e = (refl, cc)
     from (refused r) m e = cc
 
 -- one that is refused: a part is
-indent-refused : (text : List ℕ) (list : Arrays) (count : ℕ) (r : Refusal) → refused r ≡ indent_call text list count → first_refusal (part_verdict text) (take count (contents list)) ≡ refused r
+indent-refused : (text : List ℕ) (list : Arrays) (count : ℕ) (r : Refusal) → count ≡ length (contents list) → refused r ≡ indent_call text list count → first_refusal (part_verdict text) (contents list) ≡ refused r
 unfolding indent_call
-indent-refused text list count r e = from (first_refusal (part_verdict text) (take count (contents list))) (indent_of text (take count (contents list))) e
+indent-refused text list count r whole e = from (first_refusal (part_verdict text) (contents list)) (indent_of text (contents list)) (rw (all-taken list count whole) at e)
   where
     from : (v : Verdict) (m : ℕ) → refused r ≡ and_then v (given m) → v ≡ refused r
     from (given u) m e = cc
     from (refused q) m e = cc
 
 -- Of listed parts
-module _ (text : List ℕ) (quote : ℕ) (list : Arrays) (count at : ℕ) (out : List ℕ) where
+module _ (text : List ℕ) (quote : ℕ) (list : Arrays) (count at : ℕ) (out : List ℕ) (whole : count ≡ length (contents list)) where
   -- the indent is refused
-  pub listed-no-indent : (r : Refusal) → refused r ≡ indent_call text list count → ListedValue text quote (take count (contents list)) at out (refused r) out
-  listed-no-indent r e = let bad = indent-refused text list count r e in record { answered = rw bad refl; output = rw bad refl }
+  pub listed-no-indent : (r : Refusal) → refused r ≡ indent_call text list count → ListedValue text quote (contents list) at out (refused r) out
+  listed-no-indent r e = let bad = indent-refused text list count r whole e in record { answered = rw bad refl; output = rw bad refl }
 
   module _ (n : ℕ) (e : given n ≡ indent_call text list count) where
     -- the indent is found, and an escape is refused
-    pub listed-no-escapes : (r : Refusal) → refused r ≡ first_refusal (escape_verdict text) (take count (contents list)) → ListedValue text quote (take count (contents list)) at out (refused r) out
-    listed-no-escapes r f = let good = (indent-found text list count n e).0 in record { answered = rw (good, ← f) refl; output = rw (good, ← f) refl }
+    pub listed-no-escapes : (r : Refusal) → refused r ≡ first_refusal (escape_verdict text) (contents list) → ListedValue text quote (contents list) at out (refused r) out
+    listed-no-escapes r f = let good = (indent-found text list count n whole e).0 in record { answered = rw (good, ← f) refl; output = rw (good, ← f) refl }
 
-    module _ (f : accepted ≡ first_refusal (escape_verdict text) (take count (contents list))) where
+    module _ (f : accepted ≡ first_refusal (escape_verdict text) (contents list)) where
       -- nothing is said against the parts
-      pub parts-good : PartsAccepted text (take count (contents list))
-      parts-good = record { inside = (indent-found text list count n e).0; escapes = sym f }
+      pub parts-good : PartsAccepted text (contents list)
+      parts-good = record { inside = (indent-found text list count n whole e).0; escapes = sym f }
 
       -- so their value is the call's
-      pub listed-written : {answer : Answer Held} {out' : List ℕ} → WrittenValue text (cond (is_triple quote) n 0) (take count (contents list)) at out answer out' → ListedValue text quote (take count (contents list)) at out answer out'
+      pub listed-written : {answer : Answer Held} {out' : List ℕ} → WrittenValue text (cond (is_triple quote) n 0) (contents list) at out answer out' → ListedValue text quote (contents list) at out answer out'
       listed-written w =
-          let found = indent-found text list count n e in
+          let found = indent-found text list count n whole e in
           let v = rw found.1 at w in
           record { answered = rw (found.0, ← f) v.answered; output = rw (found.0, ← f) v.output }
 
 -- for attributes
-pub ruleset listed = (listed-no-escapes, parts-good)
+pub ruleset listed = (parts-good)
 
 module _ (text : List ℕ) (ls : List Lexeme) (p : Parts) (out : List ℕ) (at : ℕ) where
   -- the parts are refused

@@ -1,5 +1,5 @@
 -- Laws of the pieces that parts give, written one after another.
-use Rattle.std.proofs.Common.{◌≡◌, ℕ, ◌+◌, ◌≤◌, ◌<◌, false, List, [], ◌∷◌, leb, eqb, length, drop, drop_of_length-le, refl, sym, ap, ◌∙◌, arith, length-append, add-zero, add_assoc}
+use Rattle.std.proofs.Common.{◌≡◌, ℕ, ◌+◌, ◌≤◌, ◌<◌, false, List, [], ◌∷◌, leb, eqb, length, refl, sym, ap, ◌∙◌, arith, length-append, add-zero, add_assoc}
 use borrow.Author.Tests.{leb-true, leb-false}
 use Rattle.rules.specs.Refusals.{OutputFull}
 use Rattle.rules.specs.Spans.{nowhere}
@@ -28,20 +28,17 @@ reached-on at n m (given u) = ap given (add_assoc at n m)
 reached-on at n m (refused r) = refl
 
 module _ {text : List ℕ} {indent at : ℕ} {out : List ℕ} where
-  module _ (ps : List Lexeme) (i : ℕ) (le : length ps ≤ i) where
-    -- no part is left, at a position within the output's end
-    pub all-end : at ≤ end_of out → AllWritten text indent (drop i ps) at out (given at) out
-    all-end h =
-        let last = drop_of_length-le ps {i = i} le in
-        let ends = written-nothing (end_of out) at h in
-        record { answered = rw (last, ends, add-zero at); output = rw (last, ends) (sym (overwritten-nothing out at)) }
+  -- no part is left, at a position within the output's end
+  pub all-end : at ≤ end_of out → AllWritten text indent [] at out (given at) out
+  all-end h =
+      let ends = written-nothing (end_of out) at h in
+      record { answered = rw (ends, add-zero at); output = rw ends (sym (overwritten-nothing out at)) }
 
-    -- no part is left, at a position past the output's end
-    pub all-past : end_of out < at → AllWritten text indent (drop i ps) at out (refuse OutputFull nowhere) out
-    all-past h =
-        let last = drop_of_length-le ps {i = i} le in
-        let ends = written-past (end_of out) at h in
-        record { answered = rw (last, ends); output = rw (last, ends) (sym (overwritten-nothing out at)) }
+  -- no part is left, at a position past the output's end
+  pub all-past : end_of out < at → AllWritten text indent [] at out (refuse OutputFull nowhere) out
+  all-past h =
+      let ends = written-past (end_of out) at h in
+      record { answered = rw ends; output = rw ends (sym (overwritten-nothing out at)) }
 
   module _ {p : Lexeme} {ps : List Lexeme} where
     -- a part whose bytes fit, then the others
@@ -94,6 +91,3 @@ module _ {text : List ℕ} {indent at : ℕ} {out : List ℕ} where
           answered = rw (e, stops) (rw f at (part.answered e));
           output = rw (e, stops) (rw f at (part.output e) ∙ sym (overwritten-nothing out at));
         }))
-
--- for attributes
-pub ruleset ends = (all-end, all-past)

@@ -1,5 +1,5 @@
 -- Laws of one part that nothing is said against: where it lies, and what writing its bytes comes to.
-use Rattle.std.proofs.Common.{◌≡◌, ℕ, ◌+◌, ◌-◌, ◌≤◌, ◌<◌, true, false, List, ◌∷◌, ◌++◌, leb, eqb, length, length-drop, take, take_all, drop, refl, sym, ap, ◌∙◌, arith, Ok, Err}
+use Rattle.std.proofs.Common.{◌≡◌, ℕ, ◌+◌, ◌-◌, ◌≤◌, ◌<◌, true, false, List, ◌∷◌, ◌++◌, leb, eqb, length, length-drop, take, take_all, drop, refl, sym, ap, ◌∙◌, arith, Result, Ok, Err}
 use borrow.Author.Tests.{ne_eqb, le-leb, lt-leb, leb-true, leb-false}
 use mathlib.Core.Option.{none, some}
 use Rattle.rules.specs.Utf8.{encode}
@@ -15,20 +15,30 @@ use Rattle.rules.specs.Indent.{part_verdict}
 use Rattle.rules.specs.Value.{dedented, part_bytes, escape_verdict}
 use Rattle.rules.proofs.Text.{decide, both}
 use Rattle.cst.specs.Meaning.{if_part}
-use Rattle.cst.proofs.Told.{part_same, no-part-kind, escape-code}
+use Rattle.cst.proofs.Told.{part_same, no-part-kind}
 use Rattle.source.specs.Meaning.{part_of}
 use Rattle.string.specs.Indents.{taken_off}
 use Rattle.string.proofs.Dedenting.{taken-within, dedented-same, dedented-two}
 use Rattle.string.proofs.Lines.{checked-kind, checked-inside}
 use Rattle.string.proofs.Escapes.{unescape-fits, unescape-not}
-use Rattle.output.specs.Places.{full, Put}
+use Rattle.source.specs.declared.Refusal.{Refusal as CodeRefusal}
+use Rattle.string.specs.Meaning.{bytes_written}
+use Rattle.value.specs.Meaning.{reached}
+use Rattle.output.specs.declared.Full.{Full}
+use Rattle.output.specs.declared.Output.{Output}
+use Rattle.output.specs.Places.{Put}
 use Rattle.output.proofs.Overwritten.{put-ok, put-err}
 use Rattle.value.specs.Pieces.{PartAccepted, PartsAccepted, PartWritten}
-use Rattle.value.proofs.Refusing.{first-each}
+use Rattle.value.proofs.Refusing.{both-accepted}
 
--- each of the parts that nothing is said against is such a part
-pub all-good : (text : List ℕ) (ps : List Lexeme) (i : ℕ) {p : Lexeme} {rest : List Lexeme} → PartsAccepted text ps → drop i ps ≡ p ∷ rest → PartAccepted text p
-all-good text ps i g here = record { inside = first-each (part_verdict text) ps i g.inside here; escape = first-each (escape_verdict text) ps i g.escapes here }
+module _ {text : List ℕ} {p : Lexeme} {ps : List Lexeme} (g : PartsAccepted text (p ∷ ps)) where
+  -- the first of the parts that nothing is said against is such a part
+  pub first-good : PartAccepted text p
+  first-good = record { inside = (both-accepted (part_verdict text p) _ g.inside).0; escape = (both-accepted (escape_verdict text p) _ g.escapes).0 }
+
+  -- and the others are such parts
+  pub rest-good : PartsAccepted text ps
+  rest-good = record { inside = (both-accepted (part_verdict text p) _ g.inside).1; escapes = (both-accepted (escape_verdict text p) _ g.escapes).1 }
 
 -- a lexeme that nothing is said against is a part
 pub good-some : {P : Type 0} (text : List ℕ) (l : Lexeme) → PartAccepted text l → none ≡ if_part l → P
@@ -61,16 +71,16 @@ dedented-cut indent n w e =
 line : {text : List ℕ} {s : Span} → PartAccepted text (lexeme StringInner s) → part_of (resolved text s) ≡ bytes_at text s
 line {text} {s} g = ap part_of (checked-inside text (lexeme StringInner s) g.inside)
 
-module _ {text : List ℕ} {indent : ℕ} {s : Span} {at : ℕ} {out out' : List ℕ} where
+module _ {text : List ℕ} {indent : ℕ} {s : Span} {o o' : Output} where
   -- its bytes that were written
-  pub string-put : {next : ℕ} → PartAccepted text (lexeme StringInner s) → Put (dedented indent (part_of (resolved text s))) at out (Ok next) out' → PartWritten text indent (lexeme StringInner s) at out (given next) out'
+  pub string-put : {u : Unit {0}} → PartAccepted text (lexeme StringInner s) → Put (dedented indent (part_of (resolved text s))) o (Ok u) o' → PartWritten text indent (lexeme StringInner s) o.at o.bytes.now (given o'.at) o'.bytes.now
   unfolding part_bytes
-  string-put g w = let f = put-ok (rw (line g) at w) in rw (f.1, f.2) (part-fits text indent (lexeme StringInner s) at out refl f.0)
+  string-put g w = let f = put-ok (rw (line g) at w) in rw (f.1, f.2) (part-fits text indent (lexeme StringInner s) o.at o.bytes.now refl f.0)
 
   -- those that were not
-  pub string-not : PartAccepted text (lexeme StringInner s) → Put (dedented indent (part_of (resolved text s))) at out (Err full) out' → PartWritten text indent (lexeme StringInner s) at out (refuse OutputFull s) out'
+  pub string-not : {e : Full} → PartAccepted text (lexeme StringInner s) → Put (dedented indent (part_of (resolved text s))) o (Err e) o' → PartWritten text indent (lexeme StringInner s) o.at o.bytes.now (refuse OutputFull s) o'.bytes.now
   unfolding part_bytes
-  string-not g w = let f = put-err (rw (line g) at w) in rw f.1 (part-not text indent (lexeme StringInner s) at out refl f.0)
+  string-not g w = let f = put-err (rw (line g) at w) in rw f.2 (part-not text indent (lexeme StringInner s) o.at o.bytes.now refl f.0)
 
 -- an answer that nothing is said against is given
 given-of : {P A : Type 0} (a : Answer A) → verdict_on a ≡ accepted → ((x : A) → a ≡ given x → P) → P
@@ -120,9 +130,15 @@ module _ {text : List ℕ} {indent : ℕ} {s : Span} {k at : ℕ} {out out' : Li
       let not : Unescapes text s k out at (refuse OutputFull s) out = unescape-not e full in
       rw (w.answered ∙ sym not.answered, w.output ∙ sym not.output) (part-not text indent (lexeme k s) at out (escape-kind k escape).1 (rw is full))))
 
--- for attributes: of a line, of a String part, of an Escape part
+module _ {text : List ℕ} {s : Span} {k : ℕ} (indent : ℕ) (o o' : Output) where
+  -- whether they were written or not
+  pub escape-written : (r : Result (Unit {0}) CodeRefusal) → is_escape k ≡ true → escape_verdict text (lexeme k s) ≡ accepted → o.at ≤ o'.at → Unescapes text s k o.bytes.now o.at (bytes_written o r o') o'.bytes.now
+      → PartWritten text indent (lexeme k s) o.at o.bytes.now (reached r o') o'.bytes.now
+  escape-written (Ok u) escape good on w =
+      let count : o.at + (o'.at - o.at) ≡ o'.at = omega (arith, on) in
+      let put : PartWritten text indent (lexeme k s) o.at o.bytes.now (given (o.at + (o'.at - o.at))) o'.bytes.now = (escape-put escape good w).1 in
+      rw count at put
+  escape-written (Err r) escape good on w = escape-not escape good w
+
+-- for attributes: of a line
 pub ruleset dedents = (taken-within, dedented-same, dedented-cut)
-
-pub ruleset strings = (string-put, string-not)
-
-pub ruleset escapes = (escape-code, escape-put, escape-not)

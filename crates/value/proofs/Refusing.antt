@@ -4,7 +4,7 @@ use Rattle.rules.specs.Answers.{given, refused, Verdict, accepted, and_then, fir
 use Rattle.rules.specs.Lent.{Lexeme}
 
 -- where one verdict after another is accepted, both are
-both-accepted : (v w : Verdict) → and_then v w ≡ accepted → (v ≡ accepted) × (w ≡ accepted)
+pub both-accepted : (v w : Verdict) → and_then v w ≡ accepted → (v ≡ accepted) × (w ≡ accepted)
 both-accepted (given u) w e = (refl, e)
 both-accepted (refused r) w e = cc
 

@@ -1,5 +1,5 @@
 -- Laws of parts that are handed back as a part of the text, and of others.
-use Rattle.std.proofs.Common.{◌≡◌, ℕ, zero, suc, ◌<◌, true, false, List, [], ◌∷◌, eqb, length, take, refl, arith}
+use Rattle.std.proofs.Common.{◌≡◌, ℕ, ◌<◌, true, false, List, [], ◌∷◌, eqb, length, refl, arith}
 use borrow.Author.Tests.{ne_eqb}
 use Rattle.rules.specs.Spans.{bytes_at}
 use Rattle.rules.specs.Answers.{given, refused, Refusal, Verdict}
@@ -8,20 +8,16 @@ use Rattle.rules.specs.Lent.{Lexeme}
 use Rattle.rules.specs.Output.{end_of, written}
 use Rattle.rules.specs.Value.{dedented, part_bytes, value_pieces, is_unbroken, in_text, in_output, output_part, value_written}
 use Rattle.list.specs.Entries.{first_of}
-use Rattle.list.proofs.Entries.{from_place}
+use Rattle.list.proofs.Entries.{place_on}
 use Rattle.string.proofs.Lines.{checked-inside}
 use Rattle.value.proofs.Refusing.{first-each}
 use Rattle.value.specs.Pieces.{reached_from, AllWritten, WrittenValue}
 
 -- the one part of a list
-pub one-part : (n : ℕ) (ls : List Lexeme) {l : Lexeme} → length (take n ls) ≡ 1 → l ≡ first_of ls → take n ls ≡ l ∷ []
-one-part zero ls one e = absurd (omega arith)
-one-part (suc n) [] one e = absurd (omega arith)
-one-part (suc n) (p ∷ ls) one e = rw (e, nothing (take n ls) (omega arith)) refl
-  where
-    nothing : (ps : List Lexeme) → length ps ≡ 0 → ps ≡ []
-    nothing [] z = refl
-    nothing (q ∷ ps) z = absurd (omega arith)
+pub one-part : (ls : List Lexeme) {l : Lexeme} → length ls ≡ 1 → l ≡ first_of ls → ls ≡ l ∷ []
+one-part [] one e = absurd (omega arith)
+one-part (p ∷ []) one e = rw e refl
+one-part (p ∷ (q ∷ ls)) one e = absurd (omega arith)
 
 module _ (text : List ℕ) (indent : ℕ) (p : Lexeme) where
   -- it is no String
@@ -70,4 +66,4 @@ module _ {text : List ℕ} {indent : ℕ} {at : ℕ} {out : List ℕ} where
 -- for attributes: of the test whether parts are unbroken, and of the call that hands back what is
 pub ruleset tests = (one-part, unbroken-other, unbroken-string, first-each, checked-inside)
 
-pub ruleset handed_back = (from_place, unbroken-some, value-in-text)
+pub ruleset handed_back = (place_on, unbroken-some, value-in-text)

@@ -5,7 +5,7 @@ mod piece;
 mod pieces;
 mod valuing;
 
-use source::Refusal;
+use cst::Parted;
 pub use valuing::value;
 
 // Where a value stands: from a start to an end of the text, or of the output.
@@ -16,8 +16,4 @@ pub enum Held {
 }
 
 // What the value call answers, and how many parts were put into the parts list.
-#[derive(Clone, Copy, Debug, PartialEq, Eq)]
-pub struct Valued {
-    pub answer: Result<Held, Refusal>,
-    pub parts: usize,
-}
+pub type Valued = Parted<Held>;

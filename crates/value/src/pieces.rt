@@ -1,69 +1,71 @@
 // The pieces of a value, written one after another.
-ghost use Rattle.std.specs.Prelude.{◌≡◌, take};
-ghost use Rattle.rules.specs.Answers.{first_refusal, accepted};
+ghost use Rattle.std.specs.Prelude.{◌≡◌};
+ghost use Rattle.rules.specs.Answers.{first_refusal};
 ghost use Rattle.rules.specs.Lent.{contents};
-ghost use Rattle.rules.specs.Indent.{part_verdict};
 ghost use Rattle.rules.specs.Value.{escape_verdict, is_unbroken};
-ghost use Rattle.source.specs.Meaning.{verdict_meant, count_meant};
+ghost use Rattle.source.specs.Meaning.{verdict_meant};
 ghost use Rattle.list.specs.Entries.{list_meant};
+ghost use Rattle.output.specs.Places.{SameBytes};
+ghost use Rattle.value.specs.Meaning.{reached};
 ghost use Rattle.value.specs.Pieces.{PartsAccepted, AllWritten};
 
 use crate::piece;
 use cst::StringPart;
 use list::List;
+use output::Output;
 use rules::{Reason, kind};
 use source::Refusal;
 
 // The first refusal of an escape.
-#[tactic(auto, using(list::proofs::Entries::from_place))]
-pub(crate) fn check_escapes(text: &[u8], parts: List<'_>, count: usize) -> Result<(), Refusal>
-    ensures { verdict_meant result ≡ first_refusal (escape_verdict text.now) (take count (contents (list_meant parts.entry))) }
+pub(crate) fn check_escapes(text: &[u8], parts: List<'_>) -> Result<(), Refusal>
+    ensures { verdict_meant result ≡ first_refusal (escape_verdict text.now) (contents (list_meant parts.entry)) }
 {
-    for i in 0..parts.end(count) {
-        piece::check_escape(text, parts.get(i))?;
+    for entry in parts {
+        piece::check_escape(text, entry)?;
     }
     Ok(())
 }
 
-// "Unbroken" means nothing taken off and no second part, a hole included.
-#[tactic(auto, using(crate::proofs::Unbroken::tests))]
-pub(crate) fn is_unbroken(text: &[u8], indent: usize, parts: List<'_>, count: usize) -> bool
-    requires { first_refusal (part_verdict text.now) (take count (contents (list_meant parts))) ≡ accepted }
-    ensures { result ≡ is_unbroken text.now indent (take count (contents (list_meant parts.entry))) }
-{
-    if parts.end(count) != 1 {
-        return false;
-    }
-    let first = parts.get(0);
-    if first.kind != kind::STRING_INNER {
-        return false;
-    }
-    let line = source::resolve(text, first.at);
-    string::line_length(line, indent) == line.len()
+// The parts of a string of a text that nothing is said against, and the indent that is taken off.
+#[derive(Clone, Copy)]
+pub(crate) struct Pieces<'a> {
+    pub text: &'a [u8],
+    pub indent: usize,
+    pub parts: List<'a>,
+    pub ghost accepted: { PartsAccepted text.now (contents (list_meant parts)) },
 }
 
-// Writes every piece. "a position past its end gives 46", also where there is nothing to write.
-#[tactic(auto, using(crate::proofs::Chunks::ends))]
-pub(crate) fn write_parts(
-    text: &[u8],
-    indent: usize,
-    parts: List<'_>,
-    count: usize,
-    output: &mut [u8],
-    position: usize,
-) -> Result<usize, Refusal>
-    requires { PartsAccepted text.now (take count (contents (list_meant parts))) }
-    ensures { AllWritten text.now indent (take count (contents (list_meant parts.entry))) position output.old (count_meant result) output.new }
-{
-    let mut at = position;
-    for i in 0..parts.end(count) {
-        let Ok(part) = StringPart::try_from(parts.get(i)) else {
-            return Ok(at);
-        };
-        at = piece::write_part(text, indent, part, output, at)?;
+impl Pieces<'_> {
+    // "Unbroken" means nothing taken off and no second part, a hole included.
+    #[tactic(auto, using(crate::proofs::Unbroken::tests))]
+    pub(crate) fn is_unbroken(self) -> bool
+        ensures { result ≡ is_unbroken self.entry.text.now self.entry.indent (contents (list_meant self.entry.parts)) }
+    {
+        if self.parts.places() != 1 {
+            return false;
+        }
+        let first = self.parts.get(0);
+        if first.kind != kind::STRING_INNER {
+            return false;
+        }
+        let line = source::resolve(self.text, first.at);
+        string::line_length(line, self.indent) == line.len()
     }
-    if output::end(output) < at {
-        return Err(source::refuse(Reason::OutputFull, source::nowhere()));
+
+    // Writes every piece. "a position past its end gives 46", also where there is nothing to write.
+    pub(crate) fn write(self, output: &mut Output<'_>) -> Result<(), Refusal>
+        ensures written { AllWritten self.entry.text.now self.entry.indent (contents (list_meant self.entry.parts)) output.old.at output.old.bytes.now (reached result output.new) output.new.bytes.now }
+        ensures same { SameBytes output.old output.new }
+    {
+        for entry in self.parts {
+            let Ok(part) = StringPart::try_from(entry) else {
+                return Ok(());
+            };
+            piece::write_part(self.text, self.indent, part, output)?;
+        }
+        if output.end() < output.at {
+            return Err(source::refuse(Reason::OutputFull, source::nowhere()));
+        }
+        Ok(())
     }
-    Ok(at)
 }

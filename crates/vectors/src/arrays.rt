@@ -27,7 +27,7 @@ pub(crate) struct Lengths {
     pub(crate) words: usize,
 }
 
-// The two arrays of a list.
+// The two arrays of a list. Kept: beside the one of `report`, which has no marks and lends the whole arrays of one call.
 #[derive(Drop)]
 pub(crate) struct Arrays<const KINDS: usize, const WORDS: usize> {
     kinds: [u8; KINDS],

@@ -1,6 +1,4 @@
 // The fields of a line: words, numbers and bytes in hexadecimal, one space between two.
-ghost use Rattle.std.specs.Prelude.{◌<◌};
-
 use crate::arrays;
 use crate::arrays::{Lengths, Parts};
 use list::Entry;
@@ -58,12 +56,13 @@ impl<'a> Fields<'a> {
         }
     }
 
-    // Bytes, as many as there is room for: none of `-`.
+    // Bytes, as many as there is room for: none of `-`, and 0 where no two hexadecimal digits stand.
     pub(crate) fn bytes<'r>(&mut self, room: &'r mut [u8]) -> &'r [u8] {
         let digits = self.word();
         let bytes = arrays::first(room, digits.len() / 2);
         for (byte, pair) in bytes.iter_mut().zip(digits.chunks_exact(2)) {
-            *byte = digit(pair[0]) * 16 + digit(pair[1]);
+            let pair = str::from_utf8(pair).unwrap_or("");
+            *byte = u8::from_str_radix(pair, 16).unwrap_or_default();
         }
         bytes
     }
@@ -83,16 +82,5 @@ impl<'a> Fields<'a> {
             list.put(place, entry);
         }
         arrays
-    }
-}
-
-// The value of a hexadecimal digit, 0 for any other byte.
-fn digit(b: u8) -> u8
-    ensures { result < 16 }
-{
-    match b {
-        b'0'..=b'9' => b - b'0',
-        b'a'..=b'f' => b - b'a' + 10,
-        _ => 0,
     }
 }

@@ -2,6 +2,7 @@
 use crate::arrays::Arrays;
 use crate::fields::Fields;
 use crate::shown;
+use crate::shown::Refused;
 use lexer::Lexed;
 use std::io;
 use std::io::Write;
@@ -24,7 +25,7 @@ impl Memory {
 
 // The answer and the counts, the list, and how far list and stack were written: of the stack what lies below the deepest nesting is free.
 pub(crate) fn print_lexed<W: Write>(to: &mut W, lexed: Lexed, memory: &Memory) -> io::Result<()> {
-    shown::print_answer(to, lexed.answer.map(|()| "accepted"))?;
+    shown::print_answer(to, lexed.answer.map(|()| "accepted").map_err(Refused))?;
     write!(
         to,
         " ; {} {} {} {} {} ;",

@@ -1,5 +1,6 @@
 // How answers are printed.
 use list::List;
+use rules::Reason;
 use source::{Refusal, Span};
 use std::fmt::Display;
 use std::io::Write;
@@ -15,19 +16,24 @@ impl Display for Words {
     }
 }
 
-// `refused`, the number, the span, and the note's span if there is one.
+// `refused` and the number.
+#[derive(Clone, Copy)]
+pub(crate) struct Why(pub(crate) Reason);
+
+impl Display for Why {
+    fn fmt<W: fmt::Write>(&self, f: &mut fmt::Formatter<W>) -> fmt::Result {
+        write!(f, "refused {}", u8::from(self.0))
+    }
+}
+
+// The same, the span, and the note's span if there is one.
 #[derive(Clone, Copy)]
 pub(crate) struct Refused(pub(crate) Refusal);
 
 impl Display for Refused {
     fn fmt<W: fmt::Write>(&self, f: &mut fmt::Formatter<W>) -> fmt::Result {
         let refusal = self.0;
-        write!(
-            f,
-            "refused {} {}",
-            u8::from(refusal.reason),
-            Words(refusal.at)
-        )?;
+        write!(f, "{} {}", Why(refusal.reason), Words(refusal.at))?;
         match refusal.note {
             Some(opener) => write!(f, " {}", Words(opener)),
             None => Ok(()),
@@ -51,21 +57,20 @@ impl Display for Bytes<'_> {
     }
 }
 
-// What a call answers, or its refusal.
-pub(crate) fn print_answer<W: Write, T: Display + Drop>(
+// What a call answers, or what is said of its refusal.
+pub(crate) fn print_answer<W: Write, T: Display + Drop, E: Display + Drop>(
     to: &mut W,
-    answer: Result<T, Refusal>,
+    answer: Result<T, E>,
 ) -> io::Result<()> {
     match answer {
         Ok(given) => write!(to, "{given}"),
-        Err(refusal) => write!(to, "{}", Refused(refusal)),
+        Err(refused) => write!(to, "{refused}"),
     }
 }
 
 // The kind and the span of each of the first entries of a list, a space before every number.
 pub(crate) fn print_list<W: Write>(to: &mut W, list: List<'_>, entries: usize) -> io::Result<()> {
-    for place in 0..list.end(entries) {
-        let entry = list.get(place);
+    for entry in list.first(entries) {
         write!(to, " {} {}", entry.kind, Words(entry.at))?;
     }
     Ok(())

@@ -1,6 +1,7 @@
 // The calls on spans.
 use crate::fields::Fields;
-use crate::shown::Words;
+use crate::shown;
+use crate::shown::{Why, Words};
 use source::{Refusal, Span};
 use std::fmt::Display;
 use std::io;
@@ -8,10 +9,7 @@ use std::io::Write;
 
 // What a call answers, or the number of its refusal.
 fn print<W: Write, T: Display + Drop>(to: &mut W, answer: Result<T, Refusal>) -> io::Result<()> {
-    match answer {
-        Ok(given) => write!(to, "{given}"),
-        Err(refusal) => write!(to, "refused {}", u8::from(refusal.reason)),
-    }
+    shown::print_answer(to, answer.map_err(|refusal| Why(refusal.reason)))
 }
 
 fn print_span<W: Write>(to: &mut W, answer: Result<Span, Refusal>) -> io::Result<()> {

@@ -2,7 +2,8 @@
 use crate::arrays::{Lengths, MARK, Parts, first};
 use crate::fields::Fields;
 use crate::shown;
-use crate::shown::Bytes;
+use crate::shown::{Bytes, Refused};
+use output::Output;
 use source::Refusal;
 use std::fmt::Display;
 use std::io::Write;
@@ -33,11 +34,11 @@ impl Display for Place {
 }
 
 fn print_given<W: Write>(to: &mut W, answer: Result<u64, Refusal>) -> io::Result<()> {
-    shown::print_answer(to, answer.map(Given))
+    shown::print_answer(to, answer.map(Given).map_err(Refused))
 }
 
 pub(crate) fn print_value<W: Write>(to: &mut W, answer: Result<Held, Refusal>) -> io::Result<()> {
-    shown::print_answer(to, answer.map(Place))
+    shown::print_answer(to, answer.map(Place).map_err(Refused))
 }
 
 // `identifier BYTES`
@@ -72,9 +73,14 @@ pub(crate) fn escape<W: Write>(to: &mut W, mut fields: Fields<'_>) -> io::Result
     let position = fields.number();
     let mut room = [0; 256];
     let text = fields.bytes(&mut room);
-    let answer = string::unescape_into(text, span, kind, output, position);
-    print_given(to, answer.map(|n| n as u64))?;
-    write!(to, " ; {}", Bytes(output))
+    let mut output = Output {
+        bytes: output,
+        at: position,
+    };
+    let answer = string::unescape_into(text, span, kind, &mut output);
+    let written = output.at - position;
+    print_given(to, answer.map(|()| written as u64))?;
+    write!(to, " ; {}", Bytes(output.bytes))
 }
 
 // `indent KINDS WORDS COUNT BYTES LIST`

@@ -2,11 +2,10 @@
 use crate::arrays::{MARK, first};
 use crate::fields::Fields;
 use crate::lexes::Memory;
-use crate::shown::Bytes;
+use crate::shown::{Bytes, Refused};
 use crate::{lexes, shown};
 use std::io;
 use std::io::Write;
-use value::Held;
 
 // `tidy DOC KINDS WORDS SKINDS SWORDS OUTPUT BYTES`
 pub(crate) fn tidy<W: Write>(to: &mut W, mut fields: Fields<'_>) -> io::Result<()> {
@@ -23,21 +22,14 @@ pub(crate) fn tidy<W: Write>(to: &mut W, mut fields: Fields<'_>) -> io::Result<(
     write!(to, " ; {} {}", tidied.written, Bytes(output))
 }
 
-// A part: of the text where `which` is 0.
-fn part(which: usize, start: usize, end: usize) -> Held {
-    match which {
-        0 => Held::Text(start, end),
-        _ => Held::Output(start, end),
-    }
-}
-
 // `hand WHICH START END OUTPUTBYTES BYTES`
 pub(crate) fn hand<W: Write>(to: &mut W, mut fields: Fields<'_>) -> io::Result<()> {
-    let held = part(fields.number(), fields.number(), fields.number());
+    let held = words::part(fields.number(), fields.number(), fields.number());
     let mut places = [0; 256];
     let output = fields.bytes(&mut places);
     let mut room = [0; 256];
     let text = fields.bytes(&mut room);
-    shown::print_answer(to, hand::check(text, output, held).map(|()| "given"))?;
+    let checked = hand::check(text, output, held).map(|()| "given");
+    shown::print_answer(to, checked.map_err(Refused))?;
     write!(to, " ; {}", Bytes(hand::hand(text, output, held)))
 }

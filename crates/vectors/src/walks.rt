@@ -29,7 +29,7 @@ fn walk_steps<W: Write>(
         if 0 < i {
             to.write_all(b" ; ")?;
         }
-        let walked = walker::step(walker, stack);
+        let walked = walker.step(stack);
         print_step(to, walked)?;
         walker = walked.next;
     }
@@ -43,7 +43,7 @@ pub(crate) fn walk<W: Write>(to: &mut W, mut fields: Fields<'_>) -> io::Result<(
     let steps = fields.number();
     let mut room = [0; 256];
     let text = fields.bytes(&mut room);
-    walk_steps(to, walker::open(text, doc), &mut stack, steps)?;
+    walk_steps(to, Walker::open(text, doc), &mut stack, steps)?;
     // The stack after the steps: its openers, and how far its arrays were written.
     let ends = arrays.ends();
     to.write_all(b" ;")?;

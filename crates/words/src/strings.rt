@@ -49,10 +49,10 @@ impl From<Result<u64, Refusal>> for AnswerWords {
 }
 
 // The parts of a string.
-impl From<Parted> for PartedWords {
+impl From<Parted<usize>> for PartedWords {
     ghost from_gives = { λ r words. PartedAs (without_note (count_meant r.answer)) r.parts words };
 
-    fn from(r: Parted) -> PartedWords {
+    fn from(r: Parted<usize>) -> PartedWords {
         PartedWords {
             refusal: RefusalWords::from(r.answer.err()),
             closer: r.answer.unwrap_or(0) as u64,

@@ -46,43 +46,40 @@ pub struct SteppedWords {
 pub fn kept(doc: u32, kept: Option<Kept>) -> RefusalWords
     ensures { result ≡ kept_said (kept_refusal doc (kept_meant kept)) }
 {
-    match kept {
-        Some(kept) => RefusalWords::from(Some(kept.refusal(doc))),
-        None => RefusalWords::default(),
-    }
+    RefusalWords::from(kept.map(|kept| kept.refusal(doc)))
 }
 
+// The numbers of the refusals that a walker keeps.
+const NOT_UTF8: u64 = Reason::NotUtf8 as u64;
+
+const TOO_LONG: u64 = Reason::TooLong as u64;
+
 // What a walker keeps by a number and an empty span there.
-fn told_at(number: u8, at: usize) -> Result<Option<Kept>, NotKept>
+fn told_at(number: u64, at: usize) -> Result<Option<Kept>, NotKept>
     ensures { told_meant result ≡ told_at number at }
 {
-    if number == u8::from(Reason::NotUtf8) {
-        return Ok(Some(Kept::NotUtf8(at)));
+    match (number, at) {
+        (NOT_UTF8, _) => Ok(Some(Kept::NotUtf8(at))),
+        (TOO_LONG, 0) => Ok(Some(Kept::TooLong)),
+        _ => Err(NotKept),
     }
-    if number == u8::from(Reason::TooLong) && at == 0 {
-        return Ok(Some(Kept::TooLong));
-    }
-    Err(NotKept)
 }
 
 // What words tell that a walker of the document keeps.
 #[tactic(auto, unfolding(crate::specs::Walking::told_by))]
-pub fn told_by(
-    doc: u32,
-    kept: u64,
-    number: u8,
-    low: u64,
-    high: u64,
-) -> Result<Option<Kept>, NotKept>
-    ensures { told_meant result ≡ told_by doc kept number low high }
+pub fn told_by(doc: u32, kept: RefusalWords) -> Result<Option<Kept>, NotKept>
+    ensures { told_meant result ≡ told_by doc kept.refused kept.number kept.low kept.high }
 {
-    if kept == 0 && number == 0 && low == 0 && high == 0 {
+    if kept == RefusalWords::default() {
         return Ok(None);
     }
-    let at = Span { low, high };
+    let at = Span {
+        low: kept.low,
+        high: kept.high,
+    };
     let start = at.start();
-    if kept == 1 && at.doc() == doc && start == at.end() {
-        return told_at(number, start);
+    if kept.refused == 1 && at.doc() == doc && start == at.end() {
+        return told_at(kept.number, start);
     }
     Err(NotKept)
 }

@@ -2,23 +2,12 @@
 use native.Mathlib.Omega.{arith}
 use Prim.Native.Nat.{◌^◌, ◌<◌}
 use mathlib.Core.Path.{◌≡◌}
-use mathlib.Core.Bool.{true, false}
+use mathlib.Core.Bool.{true}
 use lib.Dec.{ltb}
-use lib.ListN.{length-set}
-use borrow.Author.Tests.{lt-ltb, le-ltb}
+use borrow.Author.Tests.{lt-ltb}
 use Rattle.rules.specs.Lent.{places_of}
 use Rattle.rules.proofs.Spans.{low-of-span, high-of-span}
 use Rattle.list.proofs.put.Goals as goal
-
-pub returns-then-places-place : goal.returns-then-places-place
-returns-then-places-place c =
-    let a = c.args in
-    let n = places_of a.kinds.now a.words.now in
-    let past : ltb a.place n ≡ false = le-ltb a.place n (omega (arith, c.if-places-place.true, c.places.ensures.places)) in
-    rw past
-
-pub bounds-words-place-2 : goal.bounds-words-place-2
-bounds-words-place-2 c = simp length-set (omega (arith, c.if-places-place.false, c.places.ensures.places))
 
 pub returns : goal.returns
 returns c =

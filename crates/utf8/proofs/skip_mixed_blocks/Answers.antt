@@ -1,4 +1,5 @@
 use native.Mathlib.Omega.{arith}
+use Rattle.utf8.proofs.Ahead.{passed_to}
 use Rattle.utf8.proofs.Reading.{start, over_block, to-boundary}
 use Rattle.utf8.proofs.skip_mixed_blocks.Goals as goal
 
@@ -12,4 +13,4 @@ loop-i-preserved c = (
 )
 
 pub returns : goal.returns
-returns c = rw c.last_boundary.ensures (to-boundary _ c.loop-i.invariant.1)
+returns c = rw c.last_boundary.ensures (passed_to _ (to-boundary _ c.loop-i.invariant.1))

@@ -5,7 +5,7 @@ use Rattle.utf8.proofs.Reading.{ReadTo}
 use Rattle.utf8.proofs.skip_mixed_blocks.Given as goal
 
 abbrev pub invariant-loop-i : goal.invariant-loop-i
-invariant-loop-i l = (l.i + 3 ≤ length l.text) × ReadTo l.text l.at l.i
+invariant-loop-i l = (l.i + 3 ≤ length l.text) × ReadTo l.text 0 l.i
 
 abbrev pub decreases-loop-i : goal.decreases-loop-i
 decreases-loop-i l = length l.text - l.i

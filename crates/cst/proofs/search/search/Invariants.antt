@@ -1,7 +1,7 @@
 -- The loop stands where `Stands` says; each way out of it is a law of `Standing`.
 use Prim.Native.Nat.{◌-◌}
 use mathlib.Core.Path.{◌≡◌}
-use lib.ListN.{take, length}
+use lib.ListN.{length}
 use Rattle.rules.specs.Lent.{array_places, contents}
 use Rattle.source.specs.Meaning.{span_meant}
 use Rattle.list.specs.Entries.{list_meant, lent_meant, SameArrays}
@@ -11,8 +11,8 @@ use Rattle.cst.proofs.search.search.Given as goal
 abbrev pub invariant-loop-place : goal.invariant-loop-place
 invariant-loop-place l =
     record {
-      end : l.places.end ≡ length (take l.count (contents (list_meant l.list)));
-      stands : Stands (take l.count (contents (list_meant l.list))) l.start (lent_meant l.initial.parts) (lent_meant l.parts) l.places.start l.opened.depth (span_meant l.opened.hole) l.listed;
+      end : l.places.end ≡ length (contents (list_meant l.list));
+      stands : Stands (contents (list_meant l.list)) l.start (lent_meant l.initial.parts) (lent_meant l.parts) l.places.start l.opened.depth (span_meant l.opened.hole) l.listed;
       same : SameArrays l.initial.parts l.parts;
       room : l.room ≡ array_places (lent_meant l.initial.parts);
     }

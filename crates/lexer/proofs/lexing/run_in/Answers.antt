@@ -263,15 +263,15 @@ past_other-cur-requires c =
     let o = sym c.opens.ensures ∙ c.if-opens.false in
     (can-advance i.0 h t i.4, ne_eqb _ 0 c.if-kind-eq-SPACE.false, o, sym c.closes.ensures ∙ c.if-closes.false)
 
-pub loop-cur-smaller-in-Nothing : goal.loop-cur-smaller-in-Nothing
-loop-cur-smaller-in-Nothing c =
+pub loop-cur-smaller-in-None : goal.loop-cur-smaller-in-None
+loop-cur-smaller-in-None c =
     let i = c.loop-cur.invariant in
     let h = c.loop-cur-test.true in
     let t = taken i.0 h _ _ c.in-Ok.is c.next-answer.ensures in
     runs-less i.0 h t _ c.past_other-cur.ensures
 
-pub loop-cur-preserved-in-Nothing : goal.loop-cur-preserved-in-Nothing
-loop-cur-preserved-in-Nothing c =
+pub loop-cur-preserved-in-None : goal.loop-cur-preserved-in-None
+loop-cur-preserved-in-None c =
     let i = c.loop-cur.invariant in
     let h = c.loop-cur-test.true in
     let t = taken i.0 h _ _ c.in-Ok.is c.next-answer.ensures in
@@ -283,8 +283,8 @@ loop-cur-preserved-in-Nothing c =
     let r = other-on i.0 h t z n c.pack.result c.pack.ensures c.put-else-opens.ensures _ o e c.past_other-cur.ensures (other-top i.0 h t o (sym c.closes.ensures ∙ c.if-closes.false) c.past_other-cur.ensures) in
     (rw (← tc) r, i.1, i.2, i.3, i.4, i.5)
 
-pub past_space-cur-requires-in-Space : goal.past_space-cur-requires-in-Space
-past_space-cur-requires-in-Space c =
+pub past_space-cur-requires-in-Some-Space : goal.past_space-cur-requires-in-Some-Space
+past_space-cur-requires-in-Some-Space c =
     let i = c.loop-cur.invariant in
     let h = c.loop-cur-test.true in
     let t = taken i.0 h _ _ c.in-Ok.is c.next-answer.ensures in
@@ -294,13 +294,13 @@ past_space-cur-requires-in-Space c =
     let e = ends-not c.args.to_format _ o in
     let r = other-on i.0 h t z n c.pack.result c.pack.ensures c.put-else-opens.ensures _ o e c.past_other-cur.ensures (other-top i.0 h t o (sym c.closes.ensures ∙ c.if-closes.false) c.past_other-cur.ensures) in
     let a = ends_at i.0 h t c.past_other-cur.ensures in
-    let x = space-behind r a c.loop-cur.mode i.5 c.in-Space.is c.behind-space.ensures in
+    let x = space-behind r a c.loop-cur.mode i.5 c.in-Some-Space.is (rw c.in-Some-Space.is at c.in-Some-Space.field-0-is) c.behind-space.ensures in
     let b = ahead_before r a x in
     let y = ahead-taken r a x in
     can-advance r b y i.4
 
-pub loop-cur-smaller-in-Space : goal.loop-cur-smaller-in-Space
-loop-cur-smaller-in-Space c =
+pub loop-cur-smaller-in-Some-Space : goal.loop-cur-smaller-in-Some-Space
+loop-cur-smaller-in-Some-Space c =
     let i = c.loop-cur.invariant in
     let h = c.loop-cur-test.true in
     let t = taken i.0 h _ _ c.in-Ok.is c.next-answer.ensures in
@@ -310,14 +310,14 @@ loop-cur-smaller-in-Space c =
     let e = ends-not c.args.to_format _ o in
     let r = other-on i.0 h t z n c.pack.result c.pack.ensures c.put-else-opens.ensures _ o e c.past_other-cur.ensures (other-top i.0 h t o (sym c.closes.ensures ∙ c.if-closes.false) c.past_other-cur.ensures) in
     let a = ends_at i.0 h t c.past_other-cur.ensures in
-    let x = space-behind r a c.loop-cur.mode i.5 c.in-Space.is c.behind-space.ensures in
+    let x = space-behind r a c.loop-cur.mode i.5 c.in-Some-Space.is (rw c.in-Some-Space.is at c.in-Some-Space.field-0-is) c.behind-space.ensures in
     let b = ahead_before r a x in
     let y = ahead-taken r a x in
-    omega (arith, runs-less i.0 h t _ c.past_other-cur.ensures, runs-less r b y _ c.past_space-cur-in-Space.ensures)
+    omega (arith, runs-less i.0 h t _ c.past_other-cur.ensures, runs-less r b y _ c.past_space-cur-in-Some-Space.ensures)
 
-pub loop-cur-preserved-in-Space : goal.loop-cur-preserved-in-Space
+pub loop-cur-preserved-in-Some-Space : goal.loop-cur-preserved-in-Some-Space
 unfolding code_of
-loop-cur-preserved-in-Space c =
+loop-cur-preserved-in-Some-Space c =
     let i = c.loop-cur.invariant in
     let h = c.loop-cur-test.true in
     let t = taken i.0 h _ _ c.in-Ok.is c.next-answer.ensures in
@@ -327,13 +327,13 @@ loop-cur-preserved-in-Space c =
     let e = ends-not c.args.to_format _ o in
     let r = other-on i.0 h t z n c.pack.result c.pack.ensures c.put-else-opens.ensures _ o e c.past_other-cur.ensures (other-top i.0 h t o (sym c.closes.ensures ∙ c.if-closes.false) c.past_other-cur.ensures) in
     let a = ends_at i.0 h t c.past_other-cur.ensures in
-    let x = space-behind r a c.loop-cur.mode i.5 c.in-Space.is c.behind-space.ensures in
+    let x = space-behind r a c.loop-cur.mode i.5 c.in-Some-Space.is (rw c.in-Some-Space.is at c.in-Some-Space.field-0-is) c.behind-space.ensures in
     let b = ahead_before r a x in
     let y = ahead-taken r a x in
-    (space-on r b y refl (space-ends c.args.to_format _ refl) c.past_space-cur-in-Space.ensures, i.1, i.2, i.3, i.4, i.5)
+    (space-on r b y refl (space-ends c.args.to_format _ refl) c.past_space-cur-in-Some-Space.ensures, i.1, i.2, i.3, i.4, i.5)
 
-pub overflow_add-shift-in-Blank : goal.overflow_add-shift-in-Blank
-overflow_add-shift-in-Blank c =
+pub overflow_add-shift-in-Some-Blank : goal.overflow_add-shift-in-Some-Blank
+overflow_add-shift-in-Some-Blank c =
     let i = c.loop-cur.invariant in
     let h = c.loop-cur-test.true in
     let t = taken i.0 h _ _ c.in-Ok.is c.next-answer.ensures in
@@ -343,13 +343,13 @@ overflow_add-shift-in-Blank c =
     let e = ends-not c.args.to_format _ o in
     let r = other-on i.0 h t z n c.pack.result c.pack.ensures c.put-else-opens.ensures _ o e c.past_other-cur.ensures (other-top i.0 h t o (sym c.closes.ensures ∙ c.if-closes.false) c.past_other-cur.ensures) in
     let a = ends_at i.0 h t c.past_other-cur.ensures in
-    let x = blank-behind r a c.loop-cur.mode i.5 c.in-Blank.is c.behind-space.ensures in
+    let x = blank-behind r a c.loop-cur.mode i.5 c.in-Some-Blank.is (rw c.in-Some-Blank.is at c.in-Some-Blank.field-0-is) c.behind-space.ensures in
     let b = ahead_before r a x in
     let y = ahead-taken r a x in
     omega (arith, a, (in-document r b y).0)
 
-pub overflow_add-shift-in-Blank-2 : goal.overflow_add-shift-in-Blank-2
-overflow_add-shift-in-Blank-2 c =
+pub overflow_add-shift-in-Some-Blank-2 : goal.overflow_add-shift-in-Some-Blank-2
+overflow_add-shift-in-Some-Blank-2 c =
     let i = c.loop-cur.invariant in
     let h = c.loop-cur-test.true in
     let t = taken i.0 h _ _ c.in-Ok.is c.next-answer.ensures in
@@ -359,13 +359,13 @@ overflow_add-shift-in-Blank-2 c =
     let e = ends-not c.args.to_format _ o in
     let r = other-on i.0 h t z n c.pack.result c.pack.ensures c.put-else-opens.ensures _ o e c.past_other-cur.ensures (other-top i.0 h t o (sym c.closes.ensures ∙ c.if-closes.false) c.past_other-cur.ensures) in
     let a = ends_at i.0 h t c.past_other-cur.ensures in
-    let x = blank-behind r a c.loop-cur.mode i.5 c.in-Blank.is c.behind-space.ensures in
+    let x = blank-behind r a c.loop-cur.mode i.5 c.in-Some-Blank.is (rw c.in-Some-Blank.is at c.in-Some-Blank.field-0-is) c.behind-space.ensures in
     let b = ahead_before r a x in
     let y = ahead-taken r a x in
     omega (arith, (in-document r b y).1)
 
-pub pack-requires-in-Blank : goal.pack-requires-in-Blank
-pack-requires-in-Blank c =
+pub pack-requires-in-Some-Blank : goal.pack-requires-in-Some-Blank
+pack-requires-in-Some-Blank c =
     let i = c.loop-cur.invariant in
     let h = c.loop-cur-test.true in
     let t = taken i.0 h _ _ c.in-Ok.is c.next-answer.ensures in
@@ -375,7 +375,7 @@ pack-requires-in-Blank c =
     let e = ends-not c.args.to_format _ o in
     let r = other-on i.0 h t z n c.pack.result c.pack.ensures c.put-else-opens.ensures _ o e c.past_other-cur.ensures (other-top i.0 h t o (sym c.closes.ensures ∙ c.if-closes.false) c.past_other-cur.ensures) in
     let a = ends_at i.0 h t c.past_other-cur.ensures in
-    let x = blank-behind r a c.loop-cur.mode i.5 c.in-Blank.is c.behind-space.ensures in
+    let x = blank-behind r a c.loop-cur.mode i.5 c.in-Some-Blank.is (rw c.in-Some-Blank.is at c.in-Some-Blank.field-0-is) c.behind-space.ensures in
     let b = ahead_before r a x in
     let y = ahead-taken r a x in
     (omega (arith, a, (in-document r b y).0), (in-document r b y).1)
@@ -439,11 +439,11 @@ returns-then-places-next c =
     let e = ends-not c.args.to_format _ o in
     let r = other-on i.0 h t z n c.pack.result c.pack.ensures c.put-else-opens.ensures _ o e c.past_other-cur.ensures (other-top i.0 h t o (sym c.closes.ensures ∙ c.if-closes.false) c.past_other-cur.ensures) in
     let a = ends_at i.0 h t c.past_other-cur.ensures in
-    let x = blank-behind r a c.loop-cur.mode i.5 c.in-Blank.is c.behind-space.ensures in
+    let x = blank-behind r a c.loop-cur.mode i.5 c.in-Some-Blank.is (rw c.in-Some-Blank.is at c.in-Some-Blank.field-0-is) c.behind-space.ensures in
     rw c.no_room-then-places-next.ensures (ahead-unlisted r a x refl blank-opens (omega (arith, i.1, c.if-places-next.true)))
 
-pub past_other-cur-requires-in-Blank : goal.past_other-cur-requires-in-Blank
-past_other-cur-requires-in-Blank c =
+pub past_other-cur-requires-in-Some-Blank : goal.past_other-cur-requires-in-Some-Blank
+past_other-cur-requires-in-Some-Blank c =
     let i = c.loop-cur.invariant in
     let h = c.loop-cur-test.true in
     let t = taken i.0 h _ _ c.in-Ok.is c.next-answer.ensures in
@@ -453,7 +453,7 @@ past_other-cur-requires-in-Blank c =
     let e = ends-not c.args.to_format _ o in
     let r = other-on i.0 h t z n c.pack.result c.pack.ensures c.put-else-opens.ensures _ o e c.past_other-cur.ensures (other-top i.0 h t o (sym c.closes.ensures ∙ c.if-closes.false) c.past_other-cur.ensures) in
     let a = ends_at i.0 h t c.past_other-cur.ensures in
-    let x = blank-behind r a c.loop-cur.mode i.5 c.in-Blank.is c.behind-space.ensures in
+    let x = blank-behind r a c.loop-cur.mode i.5 c.in-Some-Blank.is (rw c.in-Some-Blank.is at c.in-Some-Blank.field-0-is) c.behind-space.ensures in
     let b = ahead_before r a x in
     let y = ahead-taken r a x in
     (can-advance r b y i.4, refl, blank-opens, blank-closes)
@@ -469,10 +469,10 @@ loop-cur-smaller c =
     let e = ends-not c.args.to_format _ o in
     let r = other-on i.0 h t z n c.pack.result c.pack.ensures c.put-else-opens.ensures _ o e c.past_other-cur.ensures (other-top i.0 h t o (sym c.closes.ensures ∙ c.if-closes.false) c.past_other-cur.ensures) in
     let a = ends_at i.0 h t c.past_other-cur.ensures in
-    let x = blank-behind r a c.loop-cur.mode i.5 c.in-Blank.is c.behind-space.ensures in
+    let x = blank-behind r a c.loop-cur.mode i.5 c.in-Some-Blank.is (rw c.in-Some-Blank.is at c.in-Some-Blank.field-0-is) c.behind-space.ensures in
     let b = ahead_before r a x in
     let y = ahead-taken r a x in
-    omega (arith, runs-less i.0 h t _ c.past_other-cur.ensures, runs-less r b y _ c.past_other-cur-in-Blank.ensures)
+    omega (arith, runs-less i.0 h t _ c.past_other-cur.ensures, runs-less r b y _ c.past_other-cur-in-Some-Blank.ensures)
 
 pub loop-cur-preserved : goal.loop-cur-preserved
 unfolding code_of
@@ -486,11 +486,11 @@ loop-cur-preserved c =
     let e = ends-not c.args.to_format _ o in
     let r = other-on i.0 h t z n c.pack.result c.pack.ensures c.put-else-opens.ensures _ o e c.past_other-cur.ensures (other-top i.0 h t o (sym c.closes.ensures ∙ c.if-closes.false) c.past_other-cur.ensures) in
     let a = ends_at i.0 h t c.past_other-cur.ensures in
-    let x = blank-behind r a c.loop-cur.mode i.5 c.in-Blank.is c.behind-space.ensures in
+    let x = blank-behind r a c.loop-cur.mode i.5 c.in-Some-Blank.is (rw c.in-Some-Blank.is at c.in-Some-Blank.field-0-is) c.behind-space.ensures in
     let b = ahead_before r a x in
     let y = ahead-taken r a x in
     let f = other_fits r b y refl blank-opens (omega (arith, i.1, c.if-places-next.false)) in
-    (other-on r b y refl f c.pack-in-Blank.result (ahead-words r a x c.pack-in-Blank.result c.pack-in-Blank.ensures) c.put-in-Blank.ensures _ blank-opens (ends-not c.args.to_format _ blank-opens) c.past_other-cur-in-Blank.ensures (other-top r b y blank-opens blank-closes c.past_other-cur-in-Blank.ensures), i.1, i.2, i.3, i.4, i.5)
+    (other-on r b y refl f c.pack-in-Some-Blank.result (ahead-words r a x c.pack-in-Some-Blank.result c.pack-in-Some-Blank.ensures) c.put-in-Some-Blank.ensures _ blank-opens (ends-not c.args.to_format _ blank-opens) c.past_other-cur-in-Some-Blank.ensures (other-top r b y blank-opens blank-closes c.past_other-cur-in-Some-Blank.ensures), i.1, i.2, i.3, i.4, i.5)
 
 pub shape_of-kinds : goal.shape_of-kinds
 shape_of-kinds c = (as_long c.loop-cur.invariant.0).list.kinds
