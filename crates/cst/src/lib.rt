@@ -8,7 +8,7 @@
 // The parts of a string.
 mod search;
 
-ghost use Rattle.std.specs.Prelude.{◌≡◌, ◌≤◌, false};
+ghost use Rattle.std.specs.Prelude.{◌≡◌, ◌≤◌, false, Some, codes};
 ghost use Rattle.rules.specs.Spans.{nowhere, is_bad};
 ghost use Rattle.source.specs.Meaning.{span_meant};
 ghost use Rattle.list.specs.Entries.{entry_meant};
@@ -16,7 +16,7 @@ ghost use Rattle.cst.specs.Meaning.{part_meant, as_part_meant, if_part};
 
 use list::Entry;
 use rules::kind;
-pub use search::parts;
+pub use search::{Effect, parts};
 use source::{Refusal, Span};
 use std::error::Error;
 use std::fmt;
@@ -38,6 +38,8 @@ pub enum StringPart {
 pub struct NoPart;
 
 impl fmt::Display for NoPart {
+    ghost output = { λ no_part. Some (codes "no part of a string") };
+
     fn fmt<W: fmt::Write>(&self, f: &mut fmt::Formatter<W>) -> fmt::Result {
         f.write_str("no part of a string")
     }
@@ -55,11 +57,11 @@ pub struct Parted<T> {
 // What is open where the search for the closer stands: how many strings and holes, and the span of the outermost hole's opener where there is one.
 // Kept: 0-0 and no `Option` where there is none, as `parts_from` begins: where a hole closes an `Option` would have an arm that is never taken.
 #[derive(Clone, Copy)]
-struct Open {
-    depth: usize,
-    hole: Span,
-    ghost some_open: { 1 ≤ depth },
-    ghost good: { is_bad (span_meant hole) ≡ false },
+pub struct Open {
+    pub depth: usize,
+    pub hole: Span,
+    pub ghost some_open: { 1 ≤ depth },
+    pub ghost good: { is_bad (span_meant hole) ≡ false },
 }
 
 impl Open {

@@ -16,7 +16,7 @@ use source::Refusal;
 
 // What a lexeme that is not refused does: it is the closer, it is passed over, with what is open after it, or it completes a part.
 #[derive(Clone, Copy)]
-enum Effect {
+pub enum Effect {
     Closes,
     Passes(Open),
     Yields(StringPart),

@@ -1,7 +1,7 @@
 // The gap rule: what stands between two lexemes that are written one after the other; and writing it.
 #![tactic(auto)]
 
-ghost use Rattle.std.specs.Prelude.{◌≡◌, ◌++◌};
+ghost use Rattle.std.specs.Prelude.{◌≡◌, ◌++◌, length};
 ghost use Rattle.rules.specs.Tidy.{gap as gap_rule};
 ghost use Rattle.output.specs.Places.{Put};
 ghost use Rattle.gap.specs.Gaps.{gap_meant};
@@ -38,5 +38,15 @@ pub fn put_piece(between: Gap, lexeme: &[u8], output: &mut Output<'_>) -> Result
         Gap::Nothing => output.put(lexeme),
         Gap::LineEnd => output.put_two(b"\n", lexeme),
         Gap::Space => output.put_two(b" ", lexeme),
+    }
+}
+
+// How many bytes a gap has.
+pub fn gap_length(between: Gap) -> usize
+    ensures { result ≡ length (gap_meant between) }
+{
+    match between {
+        Gap::Nothing => 0,
+        Gap::LineEnd | Gap::Space => 1,
     }
 }

@@ -52,12 +52,8 @@ pub(crate) fn opened(opener: Option<Entry>) -> Option<State>
 fn note_of(reason: Reason, opener: Option<Entry>) -> Option<Span>
     ensures { note_meant result ≡ note_rule (number_of reason) (opener_meant opener) }
 {
-    match reason {
-        Reason::AnotherDue
-        | Reason::UnclosedBracket
-        | Reason::UnclosedHole
-        | Reason::UnclosedString
-        | Reason::UnclosedFormat => Some(opener?.at),
+    match u8::from(reason) {
+        24..=28 => Some(opener?.at),
         _ => None,
     }
 }

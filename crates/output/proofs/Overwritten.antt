@@ -1,17 +1,20 @@
 -- Laws of bytes written over an output, of a piece that is written whole or not, and of chunks one after another.
 use Prim.Native.Nat.{ℕ, ◌+◌, ◌≤◌, ◌<◌}
 use native.Mathlib.Omega.{arith}
-use mathlib.Core.Path.{◌≡◌, refl}
+use mathlib.Core.Path.{◌≡◌, refl, sym}
 use mathlib.Core.List.{List, [], ◌∷◌, ◌++◌, append_assoc}
-use lib.ListN.{length, length-append}
-use lib.Seq.{take-length}
+use borrow.Author.Tests.{leb-true}
+use lib.Dec.{leb}
+use lib.ListN.{length, take, drop, length-append}
+use lib.Seq.{take-length, paste}
 use Rattle.std.specs.Prelude.{Ok, Err}
 use Rattle.std.proofs.lemmas.Grind.{common_steps}
-use Rattle.std.proofs.lemmas.List.Edits.{paste-paste}
+use Rattle.std.proofs.lemmas.List.Edits.{paste_all, paste-paste, drop-paste}
 use Rattle.rules.specs.Refusals.{OutputFull}
 use Rattle.rules.specs.Spans.{nowhere, limit}
 use Rattle.rules.specs.Answers.{accepted, refuse}
 use Rattle.rules.specs.Output.{end_of, overwritten, Piece, written}
+use Rattle.rules.proofs.Text.{decide}
 use Rattle.output.specs.declared.Full.{Full}
 use Rattle.output.specs.declared.Output.{Output}
 use Rattle.output.specs.Places.{Put}
@@ -20,13 +23,33 @@ use Rattle.output.specs.Places.{Put}
 pub end-within : (out : List ℕ) → end_of out ≤ length out
 end-within out = omega arith
 
+-- an output ends at 2^48 − 1 at most
+pub end-limit : (out : List ℕ) → end_of out ≤ limit
+end-limit out = omega arith
+
+-- bytes written over an output are the copy of all of them
+pub overwritten-paste : (out : List ℕ) (at : ℕ) (w : List ℕ) → overwritten out at w ≡ paste out at w (length w)
+overwritten-paste out at w = sym (paste_all out at w (length w) refl)
+
 -- nothing written over an output leaves it
 pub overwritten-nothing : (out : List ℕ) (at : ℕ) → overwritten out at [] ≡ out
 overwritten-nothing out at = grind (arith, common_steps)
 
+-- bytes written over an output leave its length
+pub overwritten-length : (out : List ℕ) (at : ℕ) (w : List ℕ) → at + length w ≤ length out → length (overwritten out at w) ≡ length out
+overwritten-length out at w h = grind (arith, common_steps)
+
 -- bytes written over an output leave its end
 pub end-overwritten : (out : List ℕ) (at : ℕ) (w : List ℕ) → at + length w ≤ length out → end_of (overwritten out at w) ≡ end_of out
 end-overwritten out at w h = grind (arith, common_steps)
+
+-- up to where the bytes end: what stood before them, then they
+pub overwritten-take : (out : List ℕ) (at : ℕ) (w : List ℕ) → at + length w ≤ length out → take (at + length w) (overwritten out at w) ≡ take at out ++ w
+overwritten-take out at w h = grind (arith, common_steps)
+
+-- from where the bytes end on, the output is as it was
+pub overwritten-drop : (out : List ℕ) (at : ℕ) (w : List ℕ) → at + length w ≤ length out → drop (at + length w) (overwritten out at w) ≡ drop (at + length w) out
+overwritten-drop out at w h = rw (overwritten-paste out at w) (drop-paste out at w (length w) (omega arith) (omega arith))
 
 -- bytes written after others are both written at once
 pub overwritten-two : (out : List ℕ) (at : ℕ) (v w : List ℕ) → at + length v + length w ≤ length out → overwritten (overwritten out at v) (at + length v) w ≡ overwritten out at (v ++ w)
@@ -74,3 +97,13 @@ written-one-fits end at c h = grind (arith, common_steps)
 -- one chunk that does not fit
 pub written-one-not : (end at : ℕ) (c : Piece) → end < at + length c.bytes → written end at (c ∷ []) ≡ record { bytes = []; verdict = refuse OutputFull c.at }
 written-one-not end at c h = written-stops end at c [] h
+
+-- what is written ends within the output's end
+pub written-within : (end at : ℕ) (cs : List Piece) → at ≤ end → at + length (written end at cs).bytes ≤ end
+unfolding written
+written-within end at [] h = omega (arith, h)
+written-within end at (c ∷ cs) h = decide (leb (at + length c.bytes) end)
+    (λ f.
+    let more = written-within end (at + length c.bytes) cs (leb-true (at + length c.bytes) end f) in
+    rw f (omega (arith, more, length-append c.bytes (written end (at + length c.bytes) cs).bytes)))
+    (λ f. rw f (omega (arith, h)))

@@ -1,6 +1,6 @@
 // Refusals, written to a writer `to`, and what is told where something cannot be read or written. A function that writes a piece of an answer answers an error where it could not; after one
 // that could not, nothing more of the answer is written.
-ghost use Rattle.std.specs.Prelude.{◌≡◌, OnOk, Some, codes};
+ghost use Rattle.std.specs.Prelude.{◌≡◌, ◌++◌, OnOk, Some, codes};
 ghost use Rattle.std.specs.Io.KnownBytes.{Appends, Keeps};
 ghost use Rattle.source.specs.Meaning.{refusal_meant};
 ghost use Rattle.report.specs.Printed.{message, refusal_line, over_line};
@@ -31,13 +31,25 @@ impl fmt::Display for Failed {
 
 impl Error for Failed {}
 
+impl Failed {
+    // The message with its line end, in one piece: told in one write, so that no other program's line comes between the two where they share a log.
+    fn line(self) -> &'static [u8]
+        ensures { result.now ≡ message self ++ codes "\n" }
+    {
+        match self {
+            Failed::Unread => b"standard input could not be read\n",
+            Failed::Unwritten => b"the answer could not be written\n",
+        }
+    }
+}
+
 // Says on standard error why there is no answer. Where that fails too there is no place left to say so.
 pub(crate) fn told<E: Write>(answered: Result<(), Failed>, errors: &mut E) -> Result<(), Failed>
     ensures same { result ≡ answered }
     ensures quiet { OnOk result (Keeps (E.contents errors.old) (E.contents errors.new)) }
 {
     if let Err(failed) = answered {
-        let _ = writeln!(errors, "{failed}");
+        let _ = errors.write_all(failed.line());
     }
     answered
 }

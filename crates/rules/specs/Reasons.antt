@@ -2,7 +2,7 @@
 use Rattle.std.specs.Prelude.{ℕ}
 use Rattle.rules.specs.Refusals as Refusals
 use Rattle.rules.specs.declared.refusal.Reason.{Reason}
-use Rattle.rules.specs.declared.refusal.Reason.TheVariants.{NotUtf8, TooLong, BadSpan, ControlByte, NotAscii, UnknownPunctuation, LoneHash, NoBinaryDigit, NoHexDigit, NoFractionDigit, NoExponentDigit, NoClosingBrace, FewHexDigits, EscapeAtEnd, EscapedLineEnd, EscapedNotAscii, NothingOpen, AnotherDue, UnclosedBracket, UnclosedHole, UnclosedString, UnclosedFormat, StackFull, ListFull, WrongForm, UnknownEscape, CapitalEscape, NoDigits, ManyDigits, NotScalar, OutputFull, NoString}
+use Rattle.rules.specs.declared.refusal.Reason.TheVariants.{NotUtf8, TooLong, BadSpan, ControlByte, NotAscii, UnknownPunctuation, LoneHash, NoBinaryDigit, NoHexDigit, NoFractionDigit, NoExponentDigit, NoClosingBrace, FewHexDigits, EscapeAtEnd, EscapedLineEnd, EscapedNotAscii, NothingOpen, AnotherDue, UnclosedBracket, UnclosedHole, UnclosedString, UnclosedFormat, StackFull, ListFull, WrongForm, UnknownEscape, CapitalEscape, NoDigits, ManyDigits, NotScalar, OutputFull, NoString, Other}
 
 abbrev pub number_of : Reason → ℕ
 number_of NotUtf8 = Refusals.NotUtf8
@@ -37,3 +37,4 @@ number_of ManyDigits = Refusals.ManyDigits
 number_of NotScalar = Refusals.NotScalar
 number_of OutputFull = Refusals.OutputFull
 number_of NoString = Refusals.NoString
+number_of (Other n) = n

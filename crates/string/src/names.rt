@@ -38,8 +38,8 @@ pub fn is_identifier(bytes: &[u8]) -> bool
     ensures { result ≡ is_identifier bytes.now }
 {
     bytes.first().is_some_and(|b| is_letter(*b))
-        && all_identifier_bytes(bytes)
         && bytes.last() != Some(&b'-')
+        && all_identifier_bytes(bytes)
         // If they satisfy all that comes first, then the only reason not to be an identifier is if there is a keyword with that name.
         && !sublexers::is_keyword(bytes)
 }

@@ -4,7 +4,7 @@
 // From src/string.rs of RCL, changed: on bytes, the form is checked, output goes to a lent array, and an error is a numbered refusal.
 
 // Escape sequences: the scalar value of one, and writing it.
-ghost use Rattle.std.specs.Prelude.{◌≡◌, ◌≤◌, true, IfOk};
+ghost use Rattle.std.specs.Prelude.{◌≡◌, ◌≤◌, true, IfOk, OnErr};
 ghost use Rattle.rules.specs.Text.{all};
 ghost use Rattle.rules.specs.Bytes.{is_hex_digit};
 ghost use Rattle.rules.specs.Utf8.{is_scalar};
@@ -152,6 +152,7 @@ pub fn unescape_into(
 ) -> Result<(), Refusal>
     ensures unescapes { Unescapes text.now (span_meant span) kind output.old.bytes.now output.old.at (bytes_written output.old result output.new) output.new.bytes.now }
     ensures onward { output.old.at ≤ output.new.at }
+    ensures stays { OnErr result (output.new.at ≡ output.old.at) }
     ensures same { SameBytes output.old output.new }
 {
     let u = scalar_value(text, span, kind)?;

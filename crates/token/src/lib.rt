@@ -6,7 +6,7 @@
 #![tactic(auto)]
 
 // The kinds of lexemes, what can be open, and their codes; the class of each byte value.
-ghost use Rattle.std.specs.Prelude.{◌≡◌, ◌||◌, eqb, get_or};
+ghost use Rattle.std.specs.Prelude.{◌≡◌, ◌||◌, ◌++◌, eqb, get_or, Some, codes, decimal};
 ghost use Rattle.rules.specs.Bytes.{class_of};
 ghost use Rattle.rules.specs.Reasons.{number_of};
 ghost use Rattle.rules.specs.Kinds.{HoleOpen, is_quote_open, is_triple, is_escape, is_opener, is_closer};
@@ -185,6 +185,8 @@ pub enum State {
 pub struct UnknownKind(pub u8);
 
 impl fmt::Display for UnknownKind {
+    ghost output = { λ unknown. Some (codes "no kind of lexeme has code " ++ decimal unknown.0) };
+
     fn fmt<W: fmt::Write>(&self, f: &mut fmt::Formatter<W>) -> fmt::Result {
         write!(f, "no kind of lexeme has code {}", self.0)
     }

@@ -6,21 +6,11 @@ use Rattle.rules.specs.Spans.{nowhere}
 use Rattle.rules.specs.Answers.{Answer, given, refused, Refusal, refuse, Verdict}
 use Rattle.rules.specs.Kinds.{HoleOpen}
 use Rattle.rules.specs.Lent.{Lexeme}
-use Rattle.rules.specs.Output.{end_of, Piece, piece, overwritten, written}
+use Rattle.rules.specs.Output.{end_of, piece, overwritten, written}
 use Rattle.rules.specs.Value.{part_bytes, value_pieces}
 use Rattle.rules.proofs.Text.{decide}
-use Rattle.output.proofs.Overwritten.{end-within, end-overwritten, overwritten-nothing, overwritten-two, written-fits, written-stops, written-nothing, written-past}
+use Rattle.output.proofs.Overwritten.{end-within, end-overwritten, overwritten-nothing, overwritten-two, written-fits, written-stops, written-nothing, written-past, written-within}
 use Rattle.value.specs.Pieces.{reached_from, PartWritten, AllWritten}
-
--- what is written ends within the output's end
-written-within : (end at : ℕ) (cs : List Piece) → at ≤ end → at + length (written end at cs).bytes ≤ end
-unfolding written
-written-within end at [] h = omega (arith, h)
-written-within end at (c ∷ cs) h = decide (leb (at + length c.bytes) end)
-    (λ f.
-    let more = written-within end (at + length c.bytes) cs (leb-true (at + length c.bytes) end f) in
-    rw f (omega (arith, more, length-append c.bytes (written end (at + length c.bytes) cs).bytes)))
-    (λ f. rw f (omega (arith, h)))
 
 -- where writing came to, counted from an earlier position
 reached-on : (at n m : ℕ) (v : Verdict) → reached_from (at + n) m v ≡ reached_from at (n + m) v

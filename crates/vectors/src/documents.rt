@@ -29,7 +29,7 @@ fn print_string<W: Write>(
 }
 
 pub(crate) fn document<W: Write>(to: &mut W, mut fields: Fields<'_>) -> io::Result<()> {
-    let doc = fields.number();
+    let doc = fields.doc();
     let mut room = [0; 640];
     let text = fields.bytes(&mut room);
     let mut memory = Memory::marked();

@@ -45,7 +45,7 @@ pub(crate) fn print_lexed<W: Write>(to: &mut W, lexed: Lexed, memory: &Memory) -
 }
 
 pub(crate) fn lex<W: Write>(to: &mut W, mut fields: Fields<'_>) -> io::Result<()> {
-    let doc = fields.number();
+    let doc = fields.doc();
     let mut memory = Memory::marked();
     let mut list = memory.list.lend(fields.lengths());
     let mut stack = memory.stack.lend(fields.lengths());

@@ -12,7 +12,7 @@ fn print<W: Write>(to: &mut W, run: Measured) -> io::Result<()> {
 // `whitespace POSITION BYTES`: the run there, as a step measures it, and as it is measured behind a lexeme.
 pub(crate) fn whitespace<W: Write>(to: &mut W, mut fields: Fields<'_>) -> io::Result<()> {
     let mut room = [0; 256];
-    let at = fields.number();
+    let at = fields.size();
     let text = fields.bytes(&mut room);
     print(to, scan::whitespace(text, at))?;
     to.write_all(b" ")?;

@@ -16,21 +16,17 @@ fn print_span<W: Write>(to: &mut W, answer: Result<Span, Refusal>) -> io::Result
     print(to, answer.map(Words))
 }
 
-// `span CALL ARGUMENTS`: `new ID START END`, `doc LOW HIGH`, `trim_start LOW HIGH N`, `until LOW HIGH LOW HIGH` and the like.
+// `span CALL ARGUMENTS`: `new ID START END`, `doc LOW HIGH`, `trim_start LOW HIGH N`, `until LOW HIGH LOW HIGH` and the like; any other word is `union`.
 pub(crate) fn span<W: Write>(to: &mut W, mut fields: Fields<'_>) -> io::Result<()> {
     match fields.word() {
-        b"new" => print_span(
-            to,
-            Span::new(fields.number(), fields.number(), fields.number()),
-        ),
+        b"new" => print_span(to, Span::new(fields.doc(), fields.size(), fields.size())),
         b"doc" => write!(to, "{}", fields.span().doc()),
         b"start" => write!(to, "{}", fields.span().start()),
         b"end" => write!(to, "{}", fields.span().end()),
         b"len" => print(to, fields.span().len()),
-        b"trim_start" => print_span(to, fields.span().trim_start(fields.number())),
-        b"trim_end" => print_span(to, fields.span().trim_end(fields.number())),
+        b"trim_start" => print_span(to, fields.span().trim_start(fields.size())),
+        b"trim_end" => print_span(to, fields.span().trim_end(fields.size())),
         b"until" => print_span(to, fields.span().until(fields.span())),
-        b"union" => print_span(to, fields.span().union(fields.span())),
-        _ => Ok(()),
+        _ => print_span(to, fields.span().union(fields.span())),
     }
 }

@@ -58,7 +58,7 @@ pub(crate) fn keyword<W: Write>(to: &mut W, mut fields: Fields<'_>) -> io::Resul
 // `scalar LOW HIGH KIND BYTES`
 pub(crate) fn scalar<W: Write>(to: &mut W, mut fields: Fields<'_>) -> io::Result<()> {
     let span = fields.span();
-    let kind = fields.number();
+    let kind = fields.kind();
     let mut room = [0; 256];
     let text = fields.bytes(&mut room);
     print_given(to, string::scalar_value(text, span, kind).map(u64::from))
@@ -67,10 +67,10 @@ pub(crate) fn scalar<W: Write>(to: &mut W, mut fields: Fields<'_>) -> io::Result
 // `escape LOW HIGH KIND OUTPUT POSITION BYTES`
 pub(crate) fn escape<W: Write>(to: &mut W, mut fields: Fields<'_>) -> io::Result<()> {
     let span = fields.span();
-    let kind = fields.number();
+    let kind = fields.kind();
     let mut places = [MARK; 72];
-    let output = first(&mut places, fields.number());
-    let position = fields.number();
+    let output = first(&mut places, fields.size());
+    let position = fields.size();
     let mut room = [0; 256];
     let text = fields.bytes(&mut room);
     let mut output = Output {
@@ -86,7 +86,7 @@ pub(crate) fn escape<W: Write>(to: &mut W, mut fields: Fields<'_>) -> io::Result
 // `indent KINDS WORDS COUNT BYTES LIST`
 pub(crate) fn indent<W: Write>(to: &mut W, mut fields: Fields<'_>) -> io::Result<()> {
     let lengths = fields.lengths();
-    let count = fields.number();
+    let count = fields.size();
     let mut room = [0; 256];
     let text = fields.bytes(&mut room);
     let list = fields.list();
@@ -107,8 +107,8 @@ struct Case {
 fn read_case(fields: &mut Fields<'_>) -> Case {
     Case {
         list: fields.lengths(),
-        count: fields.number(),
-        place: fields.number(),
+        count: fields.size(),
+        place: fields.size(),
         parts: fields.lengths(),
     }
 }
@@ -136,8 +136,8 @@ pub(crate) fn parts<W: Write>(to: &mut W, mut fields: Fields<'_>) -> io::Result<
 pub(crate) fn value<W: Write>(to: &mut W, mut fields: Fields<'_>) -> io::Result<()> {
     let case = read_case(&mut fields);
     let mut places = [MARK; 72];
-    let output = first(&mut places, fields.number());
-    let position = fields.number();
+    let output = first(&mut places, fields.size());
+    let position = fields.size();
     let mut room = [0; 256];
     let text = fields.bytes(&mut room);
     let list = fields.list();

@@ -12,7 +12,7 @@ pub(crate) fn tallied<W: Write>(to: &mut W, mut fields: Fields<'_>) -> io::Resul
         refused: fields.number(),
         steps: fields.number(),
     };
-    let doc = fields.number();
+    let doc = fields.doc();
     let mut memory = Memory::marked();
     let mut list = memory.list.lend(fields.lengths());
     let mut stack = memory.stack.lend(fields.lengths());

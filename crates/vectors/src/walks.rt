@@ -37,10 +37,10 @@ fn walk_steps<W: Write>(
 }
 
 pub(crate) fn walk<W: Write>(to: &mut W, mut fields: Fields<'_>) -> io::Result<()> {
-    let doc = fields.number();
+    let doc = fields.doc();
     let mut arrays: Arrays<72, 144> = Arrays::marked();
     let mut stack = arrays.lend(fields.lengths());
-    let steps = fields.number();
+    let steps = fields.size();
     let mut room = [0; 256];
     let text = fields.bytes(&mut room);
     walk_steps(to, Walker::open(text, doc), &mut stack, steps)?;

@@ -1,5 +1,5 @@
 // The walker: what it keeps, what a caller's words tell of that, and its steps.
-ghost use Rattle.std.specs.Prelude.{◌≡◌, cond, ltb};
+ghost use Rattle.std.specs.Prelude.{◌≡◌, cond, ltb, Some, codes};
 ghost use Rattle.rules.specs.Refusals.{TooLong, WrongForm};
 ghost use Rattle.rules.specs.Spans.{span, limit};
 ghost use Rattle.rules.specs.Answers.{refuse};
@@ -21,6 +21,8 @@ use walker::Kept;
 pub struct NotKept;
 
 impl fmt::Display for NotKept {
+    ghost output = { λ not_kept. Some (codes "no walker of the document keeps that") };
+
     fn fmt<W: fmt::Write>(&self, f: &mut fmt::Formatter<W>) -> fmt::Result {
         f.write_str("no walker of the document keeps that")
     }
@@ -50,9 +52,9 @@ pub fn kept(doc: u32, kept: Option<Kept>) -> RefusalWords
 }
 
 // The numbers of the refusals that a walker keeps.
-const NOT_UTF8: u64 = Reason::NotUtf8 as u64;
+const NOT_UTF8: u64 = 1;
 
-const TOO_LONG: u64 = Reason::TooLong as u64;
+const TOO_LONG: u64 = 2;
 
 // What a walker keeps by a number and an empty span there.
 fn told_at(number: u64, at: usize) -> Result<Option<Kept>, NotKept>
