@@ -38,12 +38,12 @@ def first_shown():
 
 
 def functions(crate):
-    """The public functions of a crate with their contracts, and the must-fail edits that the crate has."""
+    """A crate's types with their invariants, its public functions with their contracts, and the must-fail edits that it has."""
     lines = []
-    for function in sources.functions(crate):
+    for function in sources.invariants(crate) + sources.functions(crate):
         contracts = function.contracts or ["safe and ending"]
         lines += [function.name] + [wrapped(contract, "    ", "        ") for contract in contracts]
-    tried = [f"`{edit.name}` ({edit.where})" for edit in sources.edits() if edit.crate == crate]
+    tried = [f"`{edit.name}` (`{edit.where}`)" for edit in sources.edits() if edit.crate == crate]
     parts = [fenced("\n".join(lines))] if lines else []
     return "\n\n".join(parts + ([wrapped("Must-fail edits: " + ", ".join(tried) + ".")] if tried else []))
 

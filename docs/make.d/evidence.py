@@ -14,7 +14,7 @@ def counts(_):
     rows = [
         ("crates", len(crates)),
         ("of them programs", len(crates) - len(libraries)),
-        ("public functions of the libraries", sum(len(sources.functions(name)) for name in libraries)),
+        ("public functions of the libraries, with those of traits", sum(len(sources.functions(name)) for name in libraries)),
         ("of them exported", len(sources.header())),
         ("refusals", len(sources.refusals())),
         ("must-fail edits", len(sources.edits())),

@@ -222,7 +222,7 @@ def lexing(art):
     """From the text to the list, which it answers, and to the stack."""
     text = art.box("memory", 36, 160, 150, 56, "text", "only read")
     utf8 = art.crate(221, 160, 150, 56, "utf8", "is it UTF-8?")
-    lexer = art.crate(406, 160, 150, 56, "lexer", "the loop `run`; `lex`")
+    lexer = art.crate(406, 160, 150, 56, "lexer", "loop `run_in`; `lex`")
     sublexers = art.crate(591, 152, 150, 72, "sublexers", "a module for each", "kind of lexeme")
     tally = art.crate(406, 84, 150, 46, "tally", "`lex`, counted")
     scan = art.crate(776, 132, 150, 46, "scan", "where a run ends")

@@ -91,8 +91,8 @@ def edit(path):
     return Edit(crate, path.stem, lines[0][2:], lines[1][8:], enclosing(f"crates/{crate}/{file}", old))
 
 
-CODE = re.compile(r'^([ \t]*)(?:pub(?:\([^)]*\))? )?(?:extern "C" )?(?:fn|const) (\w+)', re.M)
-DEFINITION = re.compile(r"^()(?:abbrev |unfoldable )?(?:pub )?(?:record |data )?(\w+)[^\n]* :", re.M)
+CODE = re.compile(r'^[ \t]*(?:pub(?:\([^)]*\))? )?(?:extern "C" )?(?:fn|const) (?P<name>\w+)', re.M)
+DEFINITION = re.compile(r"^(?:abbrev |unfoldable )?(?:pub )?(?:record |data )?(\w+)[^\n]* :", re.M)
 FIELD = re.compile(r"^  pub (\w+) :", re.M)
 
 
@@ -102,34 +102,78 @@ def enclosing(file, old):
     before = found(text[: text.find(old) + len(old)] if old in text else None, file, f"`{old.strip()}`, which an edit changes")
     head = list((CODE if file.endswith(".rt") else DEFINITION).finditer(before))[-1]
     if file.endswith(".rt"):
-        return owned(text, *head.groups())
+        return full_name(text, head)
     field = FIELD.findall(before[head.start():])
-    return f"{head.group(2)} .{field[-1]}" if field else head.group(2)
+    return f"{head.group(1)} .{field[-1]}" if field else head.group(1)
 
 
-def owned(text, indent, name):
-    """A function that stands further right is that of the file's one `impl`."""
-    return re.search(r"^impl (\w+)", text, re.M).group(1) + "::" + name if indent else name
+BLOCK = re.compile(r"^(?P<open>pub )?(?:impl(?:<[^>\n]*>)?|trait) (?:(?P<trait>[\w:]+)(?:<(?P<of>[^\n]*)>)? for )?(?P<type>\w+)"
+                   r"[^\n]* \{\n.*?^\}", re.M | re.S)
 
 
-FUNCTION = re.compile(r'^([ \t]*)pub (?:extern "C" )?fn (\w+)', re.M)
+def block(text, place):
+    """The `impl` or the trait in which a place of a file stands."""
+    return next((match for match in BLOCK.finditer(text) if match.start() <= place < match.end()), None)
+
+
+def full_name(text, head):
+    """A function of an `impl` by the type that has it, `Tally::default`; what a trait is of in brackets, `u8::from(Token)`."""
+    around = block(text, head.start())
+    if not around:
+        return head["name"]
+    return f"{around['type']}::{head['name']}" + (f"({around['of']})" if around["of"] else "")
+
+
+FUNCTION = re.compile(r'^[ \t]*(?P<open>pub )?(?:extern "C" )?fn (?P<name>\w+)', re.M)
+
+
+def files(crate):
+    """The sources of a crate, each with what stands in it."""
+    paths = sorted((TOP / "crates" / crate / "src").rglob("*.rt"))
+    return [(str(path.relative_to(TOP)), path.read_text(encoding="utf-8")) for path in paths]
 
 
 def functions(crate):
-    """The public functions of a crate, file by file, each with its contracts."""
+    """The public functions of a crate, file by file, each with its contracts and, of a trait's, what is said for its law."""
     listed = []
-    for path in sorted((TOP / "crates" / crate / "src").rglob("*.rt")):
-        text = path.read_text(encoding="utf-8")
-        for match in FUNCTION.finditer(text):
-            name = owned(text, *match.groups())
-            file = str(path.relative_to(TOP))
-            listed.append(Function(name, file, contracts(text[match.end():], f"{file}, {name}")))
+    for file, text in files(crate):
+        for head in filter(lambda head: is_public(text, head), FUNCTION.finditer(text)):
+            name, around = full_name(text, head), block(text, head.start())
+            said = ghosts(around.group()) if around else []
+            listed.append(Function(name, file, said + contracts(text[head.end():], f"{file}, {name}")))
     return listed
+
+
+def is_public(text, head):
+    """Whether a function is called from outside: it is `pub`, a public trait has it, or a type that is not private by a trait."""
+    around = block(text, head.start())
+    by_trait = around and (around["open"] or around["trait"] and around["type"] not in private(text))
+    return bool(head["open"] or by_trait)
+
+
+def private(text):
+    """The types of a file that its crate alone knows."""
+    return re.findall(r"^(?:pub\(crate\) )?(?:struct|enum) (\w+)", text, re.M)
+
+
+TYPE = re.compile(r"^pub struct (\w+)[^\n]* \{\n.*?^\}", re.M | re.S)
+
+
+def invariants(crate):
+    """The public types of a crate that have an invariant, each with it."""
+    types = [(match.group(1), file, ghosts(match.group())) for file, text in files(crate) for match in TYPE.finditer(text)]
+    return [Function(name, file, said) for name, file, said in types if said]
+
+
+def ghosts(body):
+    """What a trait, an `impl` or a struct says as ghost items, each with its name."""
+    items = re.findall(r"^    (?:pub )?ghost (\w+)(:| =) \{ (.*?) \}[;,]$", body, re.M | re.S)
+    return [f"{name}{sign} {plain(' '.join(text.split()))}" for name, sign, text in items]
 
 
 def contracts(rest, where):
     """The clauses after `ensures`, up to the function's body; a public function has no `requires`."""
-    head = re.split(r"^\s*\{$|[^{\n]* \{$", rest, maxsplit=1, flags=re.M)[0]
+    head = re.split(r"^\s*\{$|[^{\n]* \{$|;$", rest, maxsplit=1, flags=re.M)[0]
     if re.search(r"^\s*requires", head, re.M):
         raise SystemExit(f"{where}: a public function has no `requires`")
     found = re.findall(r"^\s*ensures (?:\w+ )?\{ (.*?) \}(?=\s*(?:ensures|\Z))", head, re.M | re.S)
