@@ -1,5 +1,7 @@
 -- Laws about the definitions that every crate above needs, and the definitions on given texts.
 
+-- a number tells the reason
+pub mod Reasons
 -- what is read off the front of a text
 pub mod Text
 -- the places of the two words of an entry

@@ -37,4 +37,4 @@ number_of ManyDigits = Refusals.ManyDigits
 number_of NotScalar = Refusals.NotScalar
 number_of OutputFull = Refusals.OutputFull
 number_of NoString = Refusals.NoString
-number_of (Other n) = n
+number_of (Other u) = u.number

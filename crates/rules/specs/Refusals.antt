@@ -1,5 +1,7 @@
 -- "What is turned down, and where": the numbers of the table, by name.
-use Rattle.std.specs.Prelude.{ℕ}
+use Rattle.std.specs.Prelude.{ℕ, Bool, List, [], ◌∷◌}
+use Rattle.std.specs.List.{list_any}
+use lib.Dec.{eqb}
 
 -- not UTF-8 by RFC 3629; empty span where the first bad sequence begins
 abbrev pub NotUtf8 : ℕ
@@ -122,3 +124,16 @@ OutputFull = 46
 -- no string: see the parts list
 abbrev pub NoString : ℕ
 NoString = 50
+
+-- all of them
+abbrev pub numbers : List ℕ
+numbers =
+    NotUtf8 ∷ TooLong ∷ BadSpan ∷ ControlByte ∷ NotAscii ∷ UnknownPunctuation ∷ LoneHash ∷ NoBinaryDigit ∷
+    NoHexDigit ∷ NoFractionDigit ∷ NoExponentDigit ∷ NoClosingBrace ∷ FewHexDigits ∷ EscapeAtEnd ∷ EscapedLineEnd ∷
+    EscapedNotAscii ∷ NothingOpen ∷ AnotherDue ∷ UnclosedBracket ∷ UnclosedHole ∷ UnclosedString ∷ UnclosedFormat ∷
+    StackFull ∷ ListFull ∷ WrongForm ∷ UnknownEscape ∷ CapitalEscape ∷ NoDigits ∷ ManyDigits ∷ NotScalar ∷
+    OutputFull ∷ NoString ∷ []
+
+-- whether the table has a number
+abbrev pub is_named : ℕ → Bool
+is_named n = list_any (eqb n) numbers

@@ -5,7 +5,7 @@ pub mod class;
 pub mod kind;
 mod refusal;
 
-pub use refusal::Reason;
+pub use refusal::{Reason, Unnamed};
 
 // "at most 2^48 − 1 bytes"
 pub const LIMIT: usize = 0xffff_ffff_ffff;

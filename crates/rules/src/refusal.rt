@@ -1,6 +1,13 @@
 // "What is turned down, and where": why, by the names of `Refusals.antt`.
-ghost use Rattle.std.specs.Prelude.{◌≡◌};
-ghost use Rattle.rules.specs.Reasons.{number_of};
+ghost use Rattle.std.specs.Prelude.{◌≡◌, false};
+ghost use Rattle.rules.specs.Refusals.{is_named};
+
+// A number that the table does not have.
+#[derive(Clone, Copy, Debug, PartialEq, Eq)]
+pub struct Unnamed {
+    pub number: u8,
+    pub ghost not_named: { is_named number ≡ false },
+}
 
 #[derive(Clone, Copy, Debug, PartialEq, Eq)]
 pub enum Reason {
@@ -62,12 +69,14 @@ pub enum Reason {
     OutputFull,
     // no string: see the parts list
     NoString,
-    // a number that the table does not have: no call answers one, and a refusal may be made with any
-    Other(u8),
+    // no call answers one, and a refusal may be made with any
+    Other(Unnamed),
 }
 
 // The paper's number.
 impl From<Reason> for u8 {
+    ghost use Rattle.rules.specs.Reasons.{number_of};
+
     ghost from_gives = { λ reason number. number ≡ number_of reason };
 
     fn from(reason: Reason) -> u8 {
@@ -104,15 +113,18 @@ impl From<Reason> for u8 {
             Reason::NotScalar => 45,
             Reason::OutputFull => 46,
             Reason::NoString => 50,
-            Reason::Other(number) => number,
+            Reason::Other(unnamed) => unnamed.number,
         }
     }
 }
 
 // Of any number.
 impl From<u8> for Reason {
+    ghost use Rattle.rules.specs.Reasons.{number_of};
+
     ghost from_gives = { λ number reason. number_of reason ≡ number };
 
+    #[tactic(auto, using(crate::proofs::Reasons::none_unnamed))]
     fn from(number: u8) -> Reason {
         match number {
             1 => Reason::NotUtf8,
@@ -147,7 +159,7 @@ impl From<u8> for Reason {
             45 => Reason::NotScalar,
             46 => Reason::OutputFull,
             50 => Reason::NoString,
-            _ => Reason::Other(number),
+            _ => Reason::Other(Unnamed { number }),
         }
     }
 }
