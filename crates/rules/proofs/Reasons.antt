@@ -13,7 +13,7 @@ use Rattle.rules.specs.declared.refusal.Unnamed.{Unnamed}
 use Rattle.rules.specs.declared.refusal.Reason.{Reason}
 use Rattle.rules.specs.declared.refusal.Reason.TheVariants.{NotUtf8, TooLong, BadSpan, ControlByte, NotAscii, UnknownPunctuation, LoneHash, NoBinaryDigit, NoHexDigit, NoFractionDigit, NoExponentDigit, NoClosingBrace, FewHexDigits, EscapeAtEnd, EscapedLineEnd, EscapedNotAscii, NothingOpen, AnotherDue, UnclosedBracket, UnclosedHole, UnclosedString, UnclosedFormat, StackFull, ListFull, WrongForm, UnknownEscape, CapitalEscape, NoDigits, ManyDigits, NotScalar, OutputFull, NoString, Other}
 
--- none of some numbers, as a match on them has it that comes to its last arm
+-- a number is none of these: what a match on them knows in its last arm, behind what was known before it
 abbrev pub IsNone : List ℕ → ℕ → Type 0 → Type 0
 IsNone [] n before = before
 IsNone (k ∷ ks) n before = IsNone ks n (before × (n ≡ k → ⊥))

@@ -69,7 +69,7 @@ pub enum Reason {
     OutputFull,
     // no string: see the parts list
     NoString,
-    // no call answers one, and a refusal may be made with any
+    // a number without a name: no call answers one, and a refusal may be made with any number
     Other(Unnamed),
 }
 
